@@ -1,0 +1,44 @@
+-- The bits of a mask under the operations on masks.
+-- Assumes nothing.
+use mathlib.Core.Path.{_≡_, refl, sym, ap, _∙_}
+use mathlib.Core.Bool.{Bool, true, false, _&&_, _||_}
+use Prim.Native.Nat.{ℕ, zero, suc, _+_, _*_, _/_, _%_, _^_, _<_, min, max}
+use native.Mathlib.Omega.{arith}
+use lib.Dec.{eqb}
+use lib.Bits.{bitAnd, bitOr, and-shr, or-shr, and-step, or-step}
+use Rattle.model.specs.Contract.{has}
+
+-- two bits, both or one of which are set
+both-bits : (u v : ℕ) → u < 2 → v < 2 → eqb (min u v) 1 ≡ (eqb u 1 && eqb v 1)
+both-bits zero zero h l = refl
+both-bits zero (suc zero) h l = refl
+both-bits (suc zero) zero h l = refl
+both-bits (suc zero) (suc zero) h l = refl
+both-bits zero (suc (suc v)) h l = absurd (omega arith)
+both-bits (suc zero) (suc (suc v)) h l = absurd (omega arith)
+both-bits (suc (suc u)) v h l = absurd (omega arith)
+
+one-bit : (u v : ℕ) → u < 2 → v < 2 → eqb (max u v) 1 ≡ (eqb u 1 || eqb v 1)
+one-bit zero zero h l = refl
+one-bit zero (suc zero) h l = refl
+one-bit (suc zero) zero h l = refl
+one-bit (suc zero) (suc zero) h l = refl
+one-bit zero (suc (suc v)) h l = absurd (omega arith)
+one-bit (suc zero) (suc (suc v)) h l = absurd (omega arith)
+one-bit (suc (suc u)) v h l = absurd (omega arith)
+
+pub has-and : (a b j : ℕ) → has (bitAnd a b) j ≡ (has a j && has b j)
+unfolding has
+has-and a b j =
+    let x = a / 2 ^ j in
+    let y = b / 2 ^ j in
+    let e : bitAnd a b / 2 ^ j % 2 ≡ min (x % 2) (y % 2) = omega (arith, and-shr a b j, and-step x y) in
+    ap (λ (u : ℕ). eqb u 1) e ∙ both-bits (x % 2) (y % 2) (omega arith) (omega arith)
+
+pub has-or : (a b j : ℕ) → has (bitOr a b) j ≡ (has a j || has b j)
+unfolding has
+has-or a b j =
+    let x = a / 2 ^ j in
+    let y = b / 2 ^ j in
+    let e : bitOr a b / 2 ^ j % 2 ≡ max (x % 2) (y % 2) = omega (arith, or-shr a b j, or-step x y) in
+    ap (λ (u : ℕ). eqb u 1) e ∙ one-bit (x % 2) (y % 2) (omega arith) (omega arith)

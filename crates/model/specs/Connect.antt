@@ -1,0 +1,115 @@
+-- Connecting: the whole answer for any bytes. Document 01, "Which pairs connect" and "Refusals and their order".
+-- Assumes nothing.
+use mathlib.Core.Bool.{Bool, cond, _||_}
+use mathlib.Core.List.{List, [], _∷_, _++_, map}
+use Prim.Native.Nat.{ℕ, min}
+use lib.ListN.{length, drop}
+use lib.Dec.{eqb, ltb, leb}
+use Rattle.model.specs.Contract.{Contract}
+use Rattle.model.specs.Sheet.{Reading, good, refusal, Both, Refusal, plain, check, then, readBoth}
+use Rattle.model.specs.Situation.{Situation, same, start, alike, codes, next}
+use Rattle.model.specs.Test.{test}
+use Rattle.model.specs.Search.{Search, searchFrom, member}
+use Rattle.model.specs.Rounds.{Settled, settled}
+use Rattle.model.specs.Plan.{Move, planRows, planBytes}
+
+-- what connecting answers: number, sheet and state; "Counts (situations, plan states, rounds)"; "the plan's length, 0 on
+-- a refusal"
+pub record Answer : Type 0 where
+  pub number : ℕ
+  pub sheet : ℕ
+  pub state : ℕ
+  pub situations : ℕ
+  pub states : ℕ
+  pub rounds : ℕ
+  pub length : ℕ
+
+-- the answer, and the bytes that go into the front of the lent plan
+pub record Outcome : Type 0 where
+  pub answer : Answer
+  pub bytes : List ℕ
+
+-- a refusal 1 to 11: the counts are 0 0 0
+unfoldable pub refused : Refusal → Outcome
+refused r =
+    record {
+      answer = record { number = r .number; sheet = r .sheet; state = r .state; situations = 0; states = 0; rounds = 0; length = 0 };
+      bytes = [];
+    }
+
+-- an answer given after situations were counted, with the plan that is written
+unfoldable pub counted : (number situations states rounds : ℕ) → List ℕ → Outcome
+counted number situations states rounds bytes =
+    record {
+      answer = record { number = number; sheet = 0; state = 0; situations = situations; states = states; rounds = rounds; length = length bytes };
+      bytes = bytes;
+    }
+
+module _ (k : ℕ) (old new : Contract) where
+  -- what never leaves, and the rounds figure
+  unfoldable pub settledOf : List Situation → Settled Situation
+  settledOf reached = settled same codes (next (alike k) old new) (test old new) reached
+
+  -- the plan's rows, for the situations that never leave
+  unfoldable pub rowsFor : List Situation → List (List Move)
+  rowsFor kept = planRows same codes (next (alike k) old new) kept start
+
+  -- 13, "the plan is longer than the lent plan", or acceptance
+  unfoldable pub emitted : (room situations rounds : ℕ) → List (List Move) → Outcome
+  emitted room situations rounds rows =
+      let bytes = planBytes (old .n) k rows in
+      cond (leb (length bytes) room) (counted 0 situations (length rows) rounds bytes) (counted 13 situations (length rows) rounds [])
+
+  -- 12, "the start is removed", or what follows
+  unfoldable pub related : (room : ℕ) → List Situation → Outcome
+  related room reached =
+      let left = settledOf reached in
+      cond (member same start (left .kept)) (emitted room (length reached) (left .rounds) (rowsFor (left .kept)))
+      (counted 12 (length reached) 0 (left .rounds) [])
+
+  -- 11, "reached situations exceed the lent records or 4,096": the search was cut off. Or what follows.
+  unfoldable pub found : (room : ℕ) → (reached beyond : List Situation) → Outcome
+  found room reached [] = related room reached
+  found room reached (s ∷ beyond) = refused (plain 11 0)
+
+  -- refusals 11 to 13 and acceptance
+  unfoldable pub connected : (limit room : ℕ) → Outcome
+  connected limit room =
+      let search = searchFrom same codes (next (alike k) old new) limit start in
+      found room (search .done) (search .todo)
+
+-- no situations above the lent records or 4,096
+unfoldable pub limitOf : ℕ → ℕ
+limitOf records = min records 4096
+
+-- 10, "k above 3", or what follows
+unfoldable pub ranked : (k records room : ℕ) → Reading Refusal Both → Outcome
+ranked k records room (refusal r) = refused r
+ranked k records room (good sheets) =
+    cond (leb k 3) (connected k (sheets .one) (sheets .two) (limitOf records) room) (refused (plain 10 0))
+
+-- the answer and the plan, for so many lent records and so much room for the plan
+unfoldable pub outcomeOf : (records room k : ℕ) → (old new : List ℕ) → Outcome
+outcomeOf records room k old new = ranked k records room (readBoth 0 0 old new)
+
+-- situations were counted: acceptance, or a refusal above 10
+unfoldable pub counts : ℕ → Bool
+counts number = eqb number 0 || ltb 10 number
+
+-- The answer, and what was lent as it is afterwards.
+pub record Connected (R : Type 0) : Type 0 where
+  pub answer : Answer
+  pub plan : List ℕ
+  pub work : List R
+
+-- The whole outcome of connecting, `blank` being the record that "is zero". The plan: "bytes beyond it are untouched".
+-- The work table: "unchanged by refusals 1 to 10 ...; after every other call, accepted ones included, each record in it is
+-- zero".
+unfoldable pub connectOf : {R : Type 0} → R → (k : ℕ) → (old new : List ℕ) → (work : List R) → (plan : List ℕ) → Connected R
+connectOf blank k old new work plan =
+    let o = outcomeOf (length work) (length plan) k old new in
+    record {
+      answer = o .answer;
+      plan = o .bytes ++ drop (length (o .bytes)) plan;
+      work = cond (counts (o .answer .number)) (map (λ r. blank) work) work;
+    }

@@ -1,0 +1,14 @@
+pub mod Lists
+pub mod Bytes
+pub mod Contract
+pub mod Sheet
+pub mod Situation
+pub mod Test
+pub mod Search
+pub mod Rounds
+pub mod Plan
+pub mod Connect
+pub mod Client
+pub mod Run
+pub mod Weak
+pub mod Cases

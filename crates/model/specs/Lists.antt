@@ -1,0 +1,38 @@
+-- Functions on lists that compute, by tests with the answers true and false.
+-- Assumes nothing.
+use mathlib.Core.Bool.{Bool, true, false, _&&_, _||_, cond}
+use mathlib.Core.List.{List, [], _∷_, List·Memᴰ}
+use Prim.Native.Nat.{ℕ, zero, suc}
+
+module _ {A : Type 0} where
+  -- some element passes
+  unfoldable pub any : (A → Bool) → List A → Bool
+  any p [] = false
+  any p (x ∷ xs) =
+      p x || any p xs
+
+  -- every element passes
+  unfoldable pub all : (A → Bool) → List A → Bool
+  all p [] = true
+  all p (x ∷ xs) =
+      p x && all p xs
+
+  -- those that pass, in order
+  unfoldable pub keep : (A → Bool) → List A → List A
+  keep p [] = []
+  keep p (x ∷ xs) = cond (p x) (x ∷ keep p xs) (keep p xs)
+
+  -- the first place whose element passes, or the length if none does
+  unfoldable pub place : (A → Bool) → List A → ℕ
+  place p [] = zero
+  place p (x ∷ xs) = cond (p x) zero (suc (place p xs))
+
+  -- no element stands twice
+  abbrev pub Distinct : List A → Type 0
+  Distinct [] = Unit {0}
+  Distinct (x ∷ xs) = (List·Memᴰ x xs → ⊥) × Distinct xs
+
+-- `count` numbers from `first` on, ascending
+unfoldable pub upto : ℕ → ℕ → List ℕ
+upto first zero = []
+upto first (suc count) = first ∷ upto (suc first) count

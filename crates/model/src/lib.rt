@@ -1,0 +1,1 @@
+// Definitions and theorems only: specs/ says what document 01 asks for, proofs/ what follows from it.
