@@ -1,2 +1,17 @@
+pub mod Lists
+pub mod Actions
 pub mod Bits
+pub mod Rounds
+pub mod Search
+pub mod Situation
+pub mod Test
+pub mod Rank
+pub mod Weak
+pub mod Sheet
+pub mod PlanRows
+pub mod PlanBytes
+pub mod PlanEmitted
+pub mod Bound
 pub mod Cases
+pub mod Client
+pub mod Run

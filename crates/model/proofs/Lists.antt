@@ -1,0 +1,179 @@
+-- Laws of tests and of the functions on lists: what each says of the elements, by recursion on the list and by cases on the
+-- test.
+-- Assumes nothing.
+use mathlib.Core.Path.{_≡_, refl, subst, subst⁻¹}
+use mathlib.Core.Bool.{Bool, true, false, _&&_, _||_, cond}
+use mathlib.Core.Logic.{_⊎_, inl, inr}
+use mathlib.Core.Option.{Option, none, some, Option·none-ne-some}
+use mathlib.Core.List.{List, [], _∷_, List·Memᴰ, List·Memᴰ·head, List·Memᴰ·tail, List·Memᴰ·cases-cons, List·Memᴰ·not-nil}
+use Prim.Native.Nat.{ℕ, zero, suc, _+_, _≤_, _<_}
+use native.Mathlib.Omega.{arith}
+use lib.ListN.{length, getD}
+use lib.Dec.{T}
+use Rattle.model.specs.Lists.{any, all, keep}
+
+-- ---- tests
+
+pub or-cases : (a b : Bool) → T (a || b) → T a ⊎ T b
+or-cases true b t = inl tt
+or-cases false b t = inr t
+
+pub or-left : (a b : Bool) → T a → T (a || b)
+or-left true b t = tt
+or-left false b t = absurd t
+
+pub or-right : (a b : Bool) → T b → T (a || b)
+or-right true b t = tt
+or-right false b t = t
+
+pub and-both : (a b : Bool) → T (a && b) → T a × T b
+and-both true b t = (tt, t)
+and-both false b t = absurd t
+
+pub and-of : (a b : Bool) → T a → T b → T (a && b)
+and-of true b s t = t
+and-of false b s t = absurd s
+
+pub dec-T : (b : Bool) → T b ⊎ (T b → ⊥)
+dec-T true = inl tt
+dec-T false = inr (λ t. t)
+
+pub cond-some : {A : Type 0} (a : Bool) (o : Option A) (x : A) → cond a o none ≡ some x → T a × (o ≡ some x)
+cond-some true o x e = (tt, e)
+cond-some false o x e = absurd (Option·none-ne-some x e)
+
+pub cond-yes : {A : Type 0} (a : Bool) (x y : A) → T a → cond a x y ≡ x
+cond-yes true x y t = refl
+cond-yes false x y t = absurd t
+
+pub cond-no : {A : Type 0} (a : Bool) (x y : A) → (T a → ⊥) → cond a x y ≡ y
+cond-no true x y t = absurd (t tt)
+cond-no false x y t = refl
+
+-- ---- `any` and `all`
+
+module _ {A : Type 0} where
+  pub any-intro : (p : A → Bool) {x : A} {l : List A} → List·Memᴰ x l → T (p x) → T (any p l)
+  unfolding any
+  any-intro p (List·Memᴰ·head {x = y} {xs = ys} e) t = or-left (p y) (any p ys) (subst (λ (z : A). T (p z)) e t)
+  any-intro p (List·Memᴰ·tail {x = y} {xs = ys} m) t = or-right (p y) (any p ys) (any-intro p m t)
+
+  pub any-elim : (p : A → Bool) (l : List A) → T (any p l) → (x : A) × List·Memᴰ x l × T (p x)
+  unfolding any
+  any-elim p [] t = absurd t
+  any-elim p (y ∷ ys) t = go (or-cases (p y) (any p ys) t) (any-elim p ys)
+    where
+      go : T (p y) ⊎ T (any p ys) → (T (any p ys) → (x : A) × List·Memᴰ x ys × T (p x)) → (x : A) × List·Memᴰ x (y ∷ ys) × T (p x)
+      go (inl h) r = (y, List·Memᴰ·head refl, h)
+      go (inr h) r = (let w = r h in (w .0, List·Memᴰ·tail (w .1), w .2))
+
+  pub all-elim : (p : A → Bool) {x : A} {l : List A} → List·Memᴰ x l → T (all p l) → T (p x)
+  unfolding all
+  all-elim p (List·Memᴰ·head {x = y} {xs = ys} e) t = subst⁻¹ (λ (z : A). T (p z)) e (and-both (p y) (all p ys) t .0)
+  all-elim p (List·Memᴰ·tail {x = y} {xs = ys} m) t = all-elim p m (and-both (p y) (all p ys) t .1)
+
+  pub all-intro : (p : A → Bool) (l : List A) → ((x : A) → List·Memᴰ x l → T (p x)) → T (all p l)
+  unfolding all
+  all-intro p [] h = tt
+  all-intro p (y ∷ ys) h =
+      and-of (p y) (all p ys) (h y (List·Memᴰ·head refl)) (all-intro p ys (λ x m. h x (List·Memᴰ·tail m)))
+
+  -- a step of `keep`, by its test
+  keep-yes : (p : A → Bool) (y : A) (ys : List A) → T (p y) → keep p (y ∷ ys) ≡ y ∷ keep p ys
+  unfolding keep
+  keep-yes p y ys t = go (p y) t
+    where
+      go : (b : Bool) → T b → cond b (y ∷ keep p ys) (keep p ys) ≡ y ∷ keep p ys
+      go true h = refl
+      go false h = absurd h
+
+  keep-no : (p : A → Bool) (y : A) (ys : List A) → (T (p y) → ⊥) → keep p (y ∷ ys) ≡ keep p ys
+  unfolding keep
+  keep-no p y ys t = go (p y) t
+    where
+      go : (b : Bool) → (T b → ⊥) → cond b (y ∷ keep p ys) (keep p ys) ≡ keep p ys
+      go true h = absurd (h tt)
+      go false h = refl
+
+-- ---- `keep`
+
+module _ {A : Type 0} (p : A → Bool) where
+  pub keep-intro : {x : A} {l : List A} → List·Memᴰ x l → T (p x) → List·Memᴰ x (keep p l)
+  keep-intro (List·Memᴰ·head {x = y} {xs = ys} e) t =
+      rw (keep-yes p y ys (subst (λ (z : A). T (p z)) e t)) (List·Memᴰ·head e)
+  keep-intro {x} (List·Memᴰ·tail {x = y} {xs = ys} m) t = go (dec-T (p y)) (keep-intro m t)
+    where
+      go : T (p y) ⊎ (T (p y) → ⊥) → List·Memᴰ x (keep p ys) → List·Memᴰ x (keep p (y ∷ ys))
+      go (inl h) r = rw (keep-yes p y ys h) (List·Memᴰ·tail r)
+      go (inr h) r = rw (keep-no p y ys h) r
+
+  pub keep-elim : (x : A) (l : List A) → List·Memᴰ x (keep p l) → List·Memᴰ x l × T (p x)
+  unfolding keep
+  keep-elim x [] m = absurd (List·Memᴰ·not-nil m)
+  keep-elim x (y ∷ ys) m = go (p y) refl m (keep-elim x ys)
+    where
+      later : List·Memᴰ x ys × T (p x) → List·Memᴰ x (y ∷ ys) × T (p x)
+      later w = (List·Memᴰ·tail (w .0), w .1)
+
+      split : p y ≡ true → (x ≡ y) ⊎ List·Memᴰ x (keep p ys) → (List·Memᴰ x (keep p ys) → List·Memᴰ x ys × T (p x)) → List·Memᴰ x (y ∷ ys) × T (p x)
+      split e (inl q) r = (List·Memᴰ·head q, rw (q, e) tt)
+      split e (inr q) r = later (r q)
+
+      go : (b : Bool) → p y ≡ b → List·Memᴰ x (cond b (y ∷ keep p ys) (keep p ys)) → (List·Memᴰ x (keep p ys) → List·Memᴰ x ys × T (p x)) → List·Memᴰ x (y ∷ ys) × T (p x)
+      go true e q r = split e (List·Memᴰ·cases-cons q) r
+      go false e q r = later (r q)
+
+  pub keep-length : (l : List A) → length (keep p l) ≤ length l
+  unfolding keep
+  keep-length [] = omega arith
+  keep-length (y ∷ ys) = go (dec-T (p y)) (keep-length ys)
+    where
+      go : T (p y) ⊎ (T (p y) → ⊥) → length (keep p ys) ≤ length ys → length (keep p (y ∷ ys)) ≤ suc (length ys)
+      go (inl h) r = rw (keep-yes p y ys h) (omega arith)
+      go (inr h) r = rw (keep-no p y ys h) (omega arith)
+
+  -- nothing was removed: every element passes, and the list is the same
+  pub keep-whole : (l : List A) → length l ≤ length (keep p l) → (x : A) → List·Memᴰ x l → T (p x)
+  keep-whole [] e x m = absurd (List·Memᴰ·not-nil m)
+  keep-whole (y ∷ ys) e x m = go (dec-T (p y)) (keep-length ys) (keep-whole ys) (List·Memᴰ·cases-cons m)
+    where
+      go : T (p y) ⊎ (T (p y) → ⊥) → length (keep p ys) ≤ length ys
+          → (length ys ≤ length (keep p ys) → (z : A) → List·Memᴰ z ys → T (p z)) → (x ≡ y) ⊎ List·Memᴰ x ys → T (p x)
+      go (inl h) b r (inl q) = rw q h
+      go (inl h) b r (inr q) =
+          let e′ : length (y ∷ ys) ≤ length (y ∷ keep p ys) = rw (keep-yes p y ys h) at e in
+          r (omega arith) x q
+      go (inr h) b r q =
+          let e′ : length (y ∷ ys) ≤ length (keep p ys) = rw (keep-no p y ys h) at e in
+          absurd (omega arith)
+
+module _ {A : Type 0} (p q : A → Bool) (weaker : (x : A) → T (p x) → T (q x)) where
+  -- a weaker test keeps as many more of a longer list
+  keep-grows-on : (y : A) (ys : List A) (more : ℕ) → more + length (keep p ys) ≤ length (keep q ys) → more + length (keep p (y ∷ ys)) ≤ length (keep q (y ∷ ys))
+  keep-grows-on y ys more r = go (dec-T (p y)) (dec-T (q y))
+    where
+      go : T (p y) ⊎ (T (p y) → ⊥) → T (q y) ⊎ (T (q y) → ⊥) → more + length (keep p (y ∷ ys)) ≤ length (keep q (y ∷ ys))
+      go (inl h) (inl k) = rw (keep-yes p y ys h, keep-yes q y ys k) (omega arith)
+      go (inl h) (inr k) = absurd (k (weaker y h))
+      go (inr h) (inl k) = rw (keep-no p y ys h, keep-yes q y ys k) (omega arith)
+      go (inr h) (inr k) = rw (keep-no p y ys h, keep-no q y ys k) r
+
+  -- a weaker test keeps no fewer
+  pub keep-grows : (l : List A) → length (keep p l) ≤ length (keep q l)
+  unfolding keep
+  keep-grows [] = omega arith
+  keep-grows (y ∷ ys) = omega (arith, keep-grows-on y ys 0 (omega (arith, keep-grows ys)))
+
+  -- and more, if it alone passes an element
+  pub keep-grows-strictly : {x : A} {l : List A} → List·Memᴰ x l → (T (p x) → ⊥) → T (q x) → length (keep p l) < length (keep q l)
+  keep-grows-strictly (List·Memᴰ·head {x = y} {xs = ys} e) h k =
+      rw (keep-no p y ys (subst (λ (z : A). T (p z) → ⊥) e h), keep-yes q y ys (subst (λ (z : A). T (q z)) e k)) (omega (arith, keep-grows ys))
+  keep-grows-strictly (List·Memᴰ·tail {x = y} {xs = ys} m) h k =
+      omega (arith, keep-grows-on y ys 1 (omega (arith, keep-grows-strictly m h k)))
+
+module _ {A : Type 0} where
+  -- what stands at a place of a list is one of its elements
+  pub getD-mem : (l : List A) (i : ℕ) (d : A) → i < length l → List·Memᴰ (getD l i d) l
+  getD-mem [] i d h = absurd (omega arith)
+  getD-mem (x ∷ l) zero d h = List·Memᴰ·head refl
+  getD-mem (x ∷ l) (suc i) d h = List·Memᴰ·tail (getD-mem l i d (omega arith))
