@@ -15,3 +15,8 @@ pub mod Bound
 pub mod Cases
 pub mod Client
 pub mod Run
+pub mod Refusals
+pub mod Connect
+pub mod Demand1
+pub mod Demand2
+pub mod Demand3

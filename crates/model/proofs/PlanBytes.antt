@@ -64,7 +64,7 @@ at-dword b i x h l =
     )
 
 -- moves
-length-moves : (ms : List Move) → length (moveBytes ms) ≡ 3 * length ms
+pub length-moves : (ms : List Move) → length (moveBytes ms) ≡ 3 * length ms
 unfolding moveBytes le16
 length-moves [] = omega arith
 length-moves (m ∷ ms) = omega (arith, length-moves ms)

@@ -11,4 +11,5 @@ pub mod Connect
 pub mod Client
 pub mod Run
 pub mod Weak
+pub mod Demands
 pub mod Cases

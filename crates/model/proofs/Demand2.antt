@@ -1,0 +1,177 @@
+-- Demand 2: an admitted pair comes to one of four cases, and each says what definition 3.7 of Padovani 2010 says there.
+-- Assumes nothing.
+use mathlib.Core.Path.{_≡_, refl, sym, ap, subst, subst⁻¹, _∙_}
+use mathlib.Core.Logic.{_≢_, _⊎_, inl, inr, ⊎-elim}
+use mathlib.Core.List.{List, [], _++_, List·Memᴰ}
+use Prim.Native.Nat.{ℕ, _+_, _≤_, _<_}
+use native.Mathlib.Omega.{arith}
+use lib.ListN.{length, take, drop}
+use lib.Seq.{take-append-seam}
+use lib.Dec.{leb, le→leb}
+use Rattle.model.specs.Contract.{Contract}
+use Rattle.model.specs.Sheet.{plain, Both}
+use Rattle.model.specs.Situation.{Situation, start, alike, same, codes, next}
+use Rattle.model.specs.Search.{Search, searchFrom}
+use Rattle.model.specs.Plan.{planBytes, rowsIn}
+use Rattle.model.specs.Connect.{Answer, Outcome, refused, counted, settledOf, rowsFor, connected, limitOf, ranked, outcomeOf, connectOf}
+use Rattle.model.specs.Demands.{emittedPlan, Admitted, ReachedCount, Related, HoldsLargest, outcome, number, Decides, Demand-2}
+use Rattle.model.proofs.Lists.{cond-yes}
+use Rattle.model.proofs.Sheet.{WellFormed, both-well-formed}
+use Rattle.model.proofs.Connect.{Shape, cut-off, removed, too-long, fits, shape, cut-exceeds, whole-within, whole-count, kept-related, rounds-within, holds-largest, emitted-rows}
+
+-- the reached situations are never more than the plan layout can number
+pub limit-few : (records : ℕ) → limitOf records ≤ 4096
+unfolding limitOf
+limit-few records = omega arith
+
+-- an admitted pair comes to `connected`
+admitted-outcome : (records room k : ℕ) (old new : List ℕ) (sheets : Both) → Admitted k old new sheets
+    → outcomeOf records room k old new ≡ connected k (sheets .one) (sheets .two) (limitOf records) room
+unfolding outcomeOf ranked
+admitted-outcome records room k old new sheets a =
+    ap (ranked k records room) (a .reads) ∙ cond-yes (leb k 3) (connected k (sheets .one) (sheets .two) (limitOf records) room) (refused (plain 10 0)) (le→leb k 3 (a .rank))
+
+module _ {R : Type 0} (blank : R) (k : ℕ) (old new : List ℕ) (sheets : Both) (work : List R) (a : Admitted k old new sheets) where
+  abbrev σ : Contract
+  σ = sheets .one
+
+  abbrev τ : Contract
+  τ = sheets .two
+
+  abbrev limit : ℕ
+  limit = limitOf (length work)
+
+  abbrev search : Search Situation
+  search = searchFrom same codes (next (alike k) σ τ) limit start
+
+  abbrev kept : List Situation
+  kept = settledOf k σ τ (search .done) .kept
+
+  abbrev bytes : List ℕ
+  bytes = planBytes (σ .n) k (rowsFor k σ τ kept)
+
+  formed : WellFormed σ × WellFormed τ × (σ .n ≡ τ .n)
+  formed = both-well-formed 0 0 old new sheets (a .reads)
+
+  -- what is answered and written, by what `connected` comes to
+  answer-is : (plan : List ℕ) (o : Outcome) → connected k σ τ limit (length plan) ≡ o → outcome blank k old new sheets work plan .answer ≡ o .answer
+  unfolding connectOf
+  answer-is plan o e = ap (λ (o : Outcome). o .answer) (admitted-outcome (length work) (length plan) k old new sheets a ∙ e)
+
+  pub emitted-is : (plan : List ℕ) (situations states rounds : ℕ) → connected k σ τ limit (length plan) ≡ counted 0 situations states rounds bytes
+      → emittedPlan (outcome blank k old new sheets work plan) ≡ bytes
+  unfolding connectOf counted
+  emitted-is plan situations states rounds e =
+      ap (λ (o : Outcome). take (o .answer .length) (o .bytes ++ drop (length (o .bytes)) plan)) (admitted-outcome (length work) (length plan) k old new sheets a ∙ e)
+      ∙ take-append-seam bytes (drop (length bytes) plan)
+
+  module _ (plan : List ℕ) where
+    abbrev answer : Answer
+    answer = outcome blank k old new sheets work plan .answer
+
+    abbrev Goal : Type 1
+    Goal = Decides blank k old new sheets work plan
+
+    decides-cut : (search .todo ≢ []) → connected k σ τ limit (length plan) ≡ refused (plain 11 0) → Goal
+    unfolding refused plain
+    decides-cut n e =
+        let q : answer ≡ record { number = 11; sheet = 0; state = 0; situations = 0; states = 0; rounds = 0; length = 0 } = answer-is plan (refused (plain 11 0)) e in
+        let is-11 : answer .number ≡ 11 = ap (λ (x : Answer). x .number) q in
+        record {
+          capacity = ((λ z. cut-exceeds k σ τ limit n), (λ x. is-11));
+          accepts = λ no _. absurd (no is-11);
+          refuses = λ no. absurd (no is-11);
+          room = λ no _. absurd (no is-11);
+          situations = λ no. absurd (no is-11);
+          rounds = subst⁻¹ (λ (x : Answer). x .rounds ≤ x .situations) q (omega arith);
+          states = λ z. absurd (omega (arith, is-11, z));
+          emitted = λ z. absurd (omega (arith, is-11, z));
+        }
+
+    decides-removed : search .todo ≡ [] → (List·Memᴰ start kept → ⊥)
+        → connected k σ τ limit (length plan) ≡ counted 12 (length (search .done)) 0 (settledOf k σ τ (search .done) .rounds) [] → Goal
+    unfolding counted
+    decides-removed w n e =
+        let q = answer-is plan (counted 12 (length (search .done)) 0 (settledOf k σ τ (search .done) .rounds) []) e in
+        let is-12 : answer .number ≡ 12 = ap (λ (x : Answer). x .number) q in
+        let none-holds : Related k σ τ start → ⊥ = (λ r. n (kept-related k σ τ limit w .1 r)) in
+        record {
+          capacity = ((λ z. absurd (omega (arith, is-12, z))), (λ x. absurd (whole-within k σ τ limit w x)));
+          accepts = λ _ _. ((λ z. absurd (omega (arith, is-12, z))), (λ r. absurd (none-holds r)));
+          refuses = λ _. ((λ z. none-holds), (λ _. is-12));
+          room = λ _ r. absurd (none-holds r);
+          situations = λ _. subst⁻¹ (λ (x : Answer). ReachedCount k σ τ (x .situations)) q (whole-count k σ τ limit w);
+          rounds = subst⁻¹ (λ (x : Answer). x .rounds ≤ x .situations) q (rounds-within k σ τ limit w);
+          states = λ z. absurd (omega (arith, is-12, z));
+          emitted = λ z. absurd (omega (arith, is-12, z));
+        }
+
+    -- the plan's size decides between acceptance and 13
+    has-room : search .todo ≡ [] → List·Memᴰ start kept
+        → (size : ℕ)
+        × ((p : List ℕ) → size ≤ length p → (number blank k old new sheets work p ≡ 0) × (outcome blank k old new sheets work p .answer .length ≡ size))
+        × ((p : List ℕ) → length p < size → number blank k old new sheets work p ≡ 13)
+    unfolding counted
+    has-room w m = (length bytes, (λ p h. enough p h (shape k σ τ limit (length p))), (λ p h. short p h (shape k σ τ limit (length p))))
+      where
+        enough : (p : List ℕ) → length bytes ≤ length p → Shape k σ τ limit (length p)
+            → (number blank k old new sheets work p ≡ 0) × (outcome blank k old new sheets work p .answer .length ≡ length bytes)
+        enough p h (cut-off n e) = absurd (n w)
+        enough p h (removed _ n e) = absurd (n m)
+        enough p h (too-long _ _ l e) = absurd (omega arith)
+        enough p h (fits _ _ l e) =
+            let q = answer-is p (counted 0 (length (search .done)) (length (rowsFor k σ τ kept)) (settledOf k σ τ (search .done) .rounds) bytes) e in
+            (ap (λ (x : Answer). x .number) q, ap (λ (x : Answer). x .length) q)
+
+        short : (p : List ℕ) → length p < length bytes → Shape k σ τ limit (length p) → number blank k old new sheets work p ≡ 13
+        short p h (cut-off n e) = absurd (n w)
+        short p h (removed _ n e) = absurd (n m)
+        short p h (too-long _ _ l e) =
+            let q = answer-is p (counted 13 (length (search .done)) (length (rowsFor k σ τ kept)) (settledOf k σ τ (search .done) .rounds) []) e in
+            ap (λ (x : Answer). x .number) q
+        short p h (fits _ _ l e) = absurd (omega arith)
+
+    decides-kept : (last : ℕ) (emitted : List ℕ) → search .todo ≡ [] → List·Memᴰ start kept → (last ≡ 0) ⊎ (last ≡ 13)
+        → connected k σ τ limit (length plan) ≡ counted last (length (search .done)) (length (rowsFor k σ τ kept)) (settledOf k σ τ (search .done) .rounds) emitted
+        → (last ≡ 0 → emitted ≡ bytes) → Goal
+    unfolding counted
+    decides-kept last emitted w m c e full =
+        let q = answer-is plan (counted last (length (search .done)) (length (rowsFor k σ τ kept)) (settledOf k σ τ (search .done) .rounds) emitted) e in
+        let is-last : answer .number ≡ last = ap (λ (x : Answer). x .number) q in
+        let holds : Related k σ τ start = kept-related k σ τ limit w .0 m in
+        let not-11 : (answer .number ≡ 11) → ⊥ = (λ z. ⊎-elim (λ (y : last ≡ 0). omega (arith, is-last, z)) (λ (y : last ≡ 13). omega (arith, is-last, z)) c) in
+        let not-12 : (answer .number ≡ 12) → ⊥ = (λ z. ⊎-elim (λ (y : last ≡ 0). omega (arith, is-last, z)) (λ (y : last ≡ 13). omega (arith, is-last, z)) c) in
+        let plan-is : (answer .number ≡ 0) → emittedPlan (outcome blank k old new sheets work plan) ≡ bytes =
+        (λ z.
+        let zero-last : last ≡ 0 = omega (arith, is-last, z) in
+        let whole : counted last (length (search .done)) (length (rowsFor k σ τ kept)) (settledOf k σ τ (search .done) .rounds) emitted
+            ≡ counted 0 (length (search .done)) (length (rowsFor k σ τ kept)) (settledOf k σ τ (search .done) .rounds) bytes =
+        (λ i. counted (zero-last i) (length (search .done)) (length (rowsFor k σ τ kept)) (settledOf k σ τ (search .done) .rounds) (full zero-last i)) in
+        emitted-is plan (length (search .done)) (length (rowsFor k σ τ kept)) (settledOf k σ τ (search .done) .rounds) (e ∙ whole)) in
+        record {
+          capacity = ((λ z. absurd (not-11 z)), (λ x. absurd (whole-within k σ τ limit w x)));
+          accepts = λ _ not-13. (
+            (λ z. holds),
+            (λ r. ⊎-elim (λ (y : last ≡ 0). is-last ∙ y) (λ (y : last ≡ 13). absurd (not-13 (is-last ∙ y))) c),
+          );
+          refuses = λ _. ((λ z. absurd (not-12 z)), (λ none-holds. absurd (none-holds holds)));
+          room = λ _ _. has-room w m;
+          situations = λ _. subst⁻¹ (λ (x : Answer). ReachedCount k σ τ (x .situations)) q (whole-count k σ τ limit w);
+          rounds = subst⁻¹ (λ (x : Answer). x .rounds ≤ x .situations) q (rounds-within k σ τ limit w);
+          states = λ z.
+              ap (λ (x : Answer). x .states) q
+              ∙ sym (ap (λ (b : List ℕ). length (rowsIn b)) (plan-is z) ∙ ap length (emitted-rows k σ τ limit w m (formed .0) (formed .1) (formed .2) (a .rank) (limit-few (length work))));
+          emitted = λ z.
+              subst⁻¹ (HoldsLargest k σ τ) (plan-is z) (holds-largest k σ τ limit w m (formed .0) (formed .1) (formed .2) (a .rank) (limit-few (length work)));
+        }
+
+    decides : Shape k σ τ limit (length plan) → Goal
+    decides (cut-off n e) = decides-cut n e
+    decides (removed w n e) = decides-removed w n e
+    decides (too-long w m l e) = decides-kept 13 [] w m (inr refl) e (λ (z : 13 ≡ 0). absurd (omega arith))
+    decides (fits w m l e) = decides-kept 0 bytes w m (inl refl) e (λ _. refl)
+
+pub demand-2 : Demand-2
+demand-2 R blank k old new sheets work plan a =
+    decides blank k old new sheets work a plan (shape k (sheets .one) (sheets .two) (limitOf (length work)) (length plan))
+

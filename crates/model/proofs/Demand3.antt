@@ -1,0 +1,197 @@
+-- Demand 3: acceptance gives two well-formed contracts and a plan whose bytes read back as its rows, so what holds of a run over
+-- the rows holds of the bytes.
+-- Assumes nothing.
+use mathlib.Core.Path.{_≡_, refl, sym, ap, subst, subst⁻¹, _∙_}
+use mathlib.Core.Bool.{Bool, true, false, cond, false≢true}
+use mathlib.Core.Logic.{_≢_}
+use mathlib.Core.Option.{some}
+use mathlib.Core.List.{List, [], List·Memᴰ}
+use Prim.Native.Nat.{ℕ, _*_, _≤_, _<_}
+use native.Mathlib.Omega.{arith}
+use lib.ListN.{length}
+use lib.Dec.{T, leb}
+use borrow.Author.Tests.{lt-ltb, leb-true}
+use Rattle.model.specs.Contract.{Contract, has}
+use Rattle.model.specs.Sheet.{Reading, good, refusal, Sheet, Refusal, plain, Both, readSheet, readBoth, sheetOf, contractIn}
+use Rattle.model.specs.Situation.{Situation, start, alike, same, codes, next}
+use Rattle.model.specs.Test.{test}
+use Rattle.model.specs.Search.{searchFrom}
+use Rattle.model.specs.Plan.{Move, held, planStates, planBytes, readPlan, rowsIn, stepRow, stepIn, stepOf}
+use Rattle.model.specs.Connect.{Outcome, refused, counted, settledOf, rowsFor, connected, limitOf, ranked, outcomeOf, connectOf}
+use Rattle.model.specs.Client.{Complies, complies, compliesIn, compliesOf}
+use Rattle.model.specs.Run.{Run, begin, Attempt, rowAtRun, runFrom, streakFrom, Standstill}
+use Rattle.model.specs.Demands.{emittedPlan, Admitted, IsReached, number, Runs, Demand-3}
+use Rattle.model.proofs.Rounds.{Closed, settled-closed, settled-from}
+use Rattle.model.proofs.Situation.{is-same}
+use Rattle.model.proofs.Test.{PassesAt, is-test}
+use Rattle.model.proofs.Weak.{is-reached, rank-reached}
+use Rattle.model.proofs.Sheet.{WellFormed, both-elim, both-well-formed, good-injective}
+use Rattle.model.proofs.Refusals.{Only, both-numbers}
+use Rattle.model.proofs.PlanRows.{mem-at}
+use Rattle.model.proofs.Client.{complies-sound}
+use Rattle.model.proofs.Bound.{allowed-alike}
+use Rattle.model.proofs.Run.{Tied, tied-begin, tied-run, no-standstill, few-alone}
+use Rattle.model.proofs.Connect.{Shape, cut-off, removed, too-long, fits, shape, emitted-reads, emitted-rows, rows-states}
+
+use Rattle.model.proofs.Demand2.{limit-few, emitted-is}
+
+-- what acceptance gives
+record Accepted (k limit room : ℕ) (old new : List ℕ) : Type 0 where
+  sheets : Both
+  admitted : Admitted k old new sheets
+  whole : searchFrom same codes (next (alike k) (sheets .one) (sheets .two)) limit start .todo ≡ []
+  begun : List·Memᴰ start (settledOf k (sheets .one) (sheets .two) (searchFrom same codes (next (alike k) (sheets .one) (sheets .two)) limit start .done) .kept)
+  situations : ℕ
+  states : ℕ
+  rounds : ℕ
+  emits : connected k (sheets .one) (sheets .two) limit room
+      ≡ counted 0 situations states rounds
+      (planBytes (sheets .one .n) k
+      (rowsFor k (sheets .one) (sheets .two)
+      (settledOf k (sheets .one) (sheets .two) (searchFrom same codes (next (alike k) (sheets .one) (sheets .two)) limit start .done) .kept)))
+
+accepted-shape : (k limit room : ℕ) (old new : List ℕ) (sheets : Both) → Admitted k old new sheets → connected k (sheets .one) (sheets .two) limit room .answer .number ≡ 0
+    → Shape k (sheets .one) (sheets .two) limit room → Accepted k limit room old new
+unfolding refused counted plain
+accepted-shape k limit room old new sheets a z (cut-off n e) = absurd (omega (arith, ap (λ (o : Outcome). o .answer .number) e))
+accepted-shape k limit room old new sheets a z (removed w n e) = absurd (omega (arith, ap (λ (o : Outcome). o .answer .number) e))
+accepted-shape k limit room old new sheets a z (too-long w m l e) = absurd (omega (arith, ap (λ (o : Outcome). o .answer .number) e))
+accepted-shape k limit room old new sheets a z (fits w m l e) =
+    record { sheets = sheets; admitted = a; whole = w; begun = m; situations = _; states = _; rounds = _; emits = e }
+
+accepted : (records room k : ℕ) (old new : List ℕ) → outcomeOf records room k old new .answer .number ≡ 0 → Accepted k (limitOf records) room old new
+unfolding outcomeOf ranked refused plain
+accepted records room k old new = go (readBoth 0 0 old new) refl (both-numbers 0 0 old new)
+  where
+    at-rank : (sheets : Both) → readBoth 0 0 old new ≡ good sheets → (t : Bool) → leb k 3 ≡ t
+        → cond t (connected k (sheets .one) (sheets .two) (limitOf records) room) (refused (plain 10 0)) .answer .number ≡ 0
+        → Accepted k (limitOf records) room old new
+    at-rank sheets e true l z =
+        accepted-shape k (limitOf records) room old new sheets (record { reads = e; rank = leb-true k 3 l }) z (shape k (sheets .one) (sheets .two) (limitOf records) room)
+    at-rank sheets e false l z = absurd (omega arith)
+
+    go : (r : Reading Refusal Both) → readBoth 0 0 old new ≡ r → Only (λ (r : Refusal). (1 ≤ r .number) × (r .number ≤ 9)) r
+        → ranked k records room r .answer .number ≡ 0 → Accepted k (limitOf records) room old new
+    go (refusal r) e o z = absurd (omega (arith, o .0))
+    go (good sheets) e o z = at-rank sheets e (leb k 3) refl z
+
+-- what a yes of the client check gives
+says-yes : (client service : List ℕ) → compliesOf client service .yes ≡ true
+    → (w : Both) × (readBoth 1 0 client service ≡ good w) × T (complies (w .one) (w .two))
+unfolding compliesOf compliesIn
+says-yes client service = go (readBoth 1 0 client service) refl
+  where
+    go : (r : Reading Refusal Both) → readBoth 1 0 client service ≡ r → compliesIn r .yes ≡ true
+        → (w : Both) × (readBoth 1 0 client service ≡ good w) × T (complies (w .one) (w .two))
+    go (refusal r) e z = absurd (false≢true z)
+    go (good w) e z = (w, e, rw z tt)
+
+-- the contract of a sheet that is read
+contract-read : (b : List ℕ) (s : Sheet) → readSheet b ≡ good s → contractIn b ≡ s .contract
+unfolding contractIn sheetOf
+contract-read b s e = ap (λ (r : Reading _ Sheet). sheetOf r .contract) e
+
+client-complies : (client old : List ℕ) (user : Sheet) (σ : Contract) → readSheet client ≡ good user → contractIn old ≡ σ
+    → compliesOf client old .yes ≡ true → Complies (user .contract) σ
+client-complies client old user σ read is-old says =
+    let w = says-yes client old says in
+    let b = both-elim 1 0 client old (w .0) (w .1) in
+    let f = both-well-formed 1 0 client old (w .0) (w .1) in
+    let one : w .0 .one ≡ user .contract = b .is-one ∙ ap (λ (s : Sheet). s .contract) (good-injective (sym (b .read₁) ∙ read)) in
+    let two : w .0 .two ≡ σ = b .is-two ∙ sym (contract-read old (b .sheet₂) (b .read₂)) ∙ is-old in
+    subst (λ (c : Contract). Complies c σ) one (subst (λ (c : Contract). Complies (w .0 .one) c) two (complies-sound (w .0 .one) (w .0 .two) (f .0) (f .1) (w .2)))
+
+module _ (k limit : ℕ) (limit-ok : limit ≤ 4096) (room : ℕ) (old new : List ℕ) (c : Accepted k limit room old new) (client : List ℕ) (user : Sheet) (read : readSheet client ≡ good user)
+    (attempts : List Attempt) where
+  abbrev σ : Contract
+  σ = c .sheets .one
+
+  abbrev τ : Contract
+  τ = c .sheets .two
+
+  abbrev found : List Situation
+  found = searchFrom same codes (next (alike k) σ τ) limit start .done
+
+  abbrev kept : List Situation
+  kept = settledOf k σ τ found .kept
+
+  abbrev rows : List (List Move)
+  rows = rowsFor k σ τ kept
+
+  abbrev bytes : List ℕ
+  bytes = planBytes (σ .n) k rows
+
+  formed : WellFormed σ × WellFormed τ × (σ .n ≡ τ .n)
+  formed = both-well-formed 0 0 old new (c .sheets) (c .admitted .reads)
+
+  reads-back : readPlan bytes ≡ some (record { n = σ .n; k = k; rows = rows })
+  reads-back = emitted-reads k σ τ limit (c .whole) (c .begun) (formed .0) (formed .1) (formed .2) (c .admitted .rank) limit-ok
+
+  rows-back : rowsIn bytes ≡ rows
+  rows-back = emitted-rows k σ τ limit (c .whole) (c .begun) (formed .0) (formed .1) (formed .2) (c .admitted .rank) limit-ok
+
+  kept-reached : (s : Situation) → List·Memᴰ s kept → IsReached k σ τ s
+  unfolding settledOf
+  kept-reached s m = is-reached (alike k) σ τ limit (c .whole) s (settled-from same is-same codes (next (alike k) σ τ) (test σ τ) found s m)
+
+  kept-closed : Closed codes (next (alike k) σ τ) (PassesAt σ τ) (λ (s : Situation). List·Memᴰ s kept)
+  unfolding settledOf
+  kept-closed = settled-closed same is-same codes (next (alike k) σ τ) (test σ τ) (PassesAt σ τ) (is-test σ τ) found
+
+  abbrev runOver : List (List Move) → List Attempt → Run
+  runOver rs l = runFrom (user .contract) τ rs begin l
+
+  tied : (l : List Attempt) → Tied (alike k) (user .contract) σ τ kept (c .begun) (runOver rows l)
+  unfolding rowsFor
+  tied l = tied-run (alike k) (user .contract) σ τ kept (c .begun) l begin (tied-begin (alike k) (user .contract) σ τ kept (c .begun))
+
+  -- stepping the emitted bytes at the run's plan state follows the row
+  step-follows : (l : List Attempt) (code : ℕ)
+      → stepOf bytes (runOver rows l .plan) code ≡ stepRow (held (rowAtRun (user .contract) τ rows (runOver rows l)) code)
+  unfolding stepOf stepIn rowAtRun
+  step-follows l code =
+      let d = tied l in
+      let below : runOver rows l .plan < length rows =
+      omega (
+        arith,
+        mem-at (planStates same codes (next (alike k) σ τ) kept start) (runOver rows l .plan) (d .at) (d .here),
+        rows-states k σ τ limit (c .whole) (c .begun) (formed .0) (formed .1) (formed .2) (c .admitted .rank) limit-ok,
+      ) in
+      rw (reads-back, lt-ltb (runOver rows l .plan) (length rows) below) refl
+
+  run-stands : (compliesOf client old .number ≡ 0) × (compliesOf client old .yes ≡ true)
+      → (R S : ℕ) → Standstill (user .contract) τ rows (runOver rows attempts) R S → T (has R 14)
+  unfolding rowsFor
+  run-stands says =
+      let b = both-elim 0 0 old new (c .sheets) (c .admitted .reads) in
+      let is-old : contractIn old ≡ σ = contract-read old (b .sheet₁) (b .read₁) ∙ sym (b .is-one) in
+      no-standstill (alike k) (user .contract) σ τ kept (c .begun) kept-closed (client-complies client old user σ read is-old (says .1)) (runOver rows attempts) (tied attempts)
+
+  run-alone : streakFrom (user .contract) τ rows begin 0 attempts ≤ 2 * k * τ .n
+  unfolding rowsFor
+  run-alone =
+      rw (← allowed-alike (τ .n) k (formed .1 .few-names))
+      (few-alone (alike k) (user .contract) σ τ kept (c .begun) (τ .n) (formed .1 .few-names)
+      (λ s m. rank-reached (alike k) σ τ (kept-reached s m)) (formed .1 .named) attempts)
+
+  runs : Runs k client old (user .contract) τ bytes attempts
+  runs =
+      record {
+        steps = λ before after a e.
+            subst⁻¹ (λ (rs : List (List Move)). stepOf bytes (runOver rs before .plan) (a .code) ≡ stepRow (held (rowAtRun (user .contract) τ rs (runOver rs before)) (a .code)))
+            rows-back (step-follows before (a .code));
+        no-standstill = λ says R S.
+            subst⁻¹ (λ (rs : List (List Move)). Standstill (user .contract) τ rs (runOver rs attempts) R S → T (has R 14)) rows-back (run-stands says R S);
+        few-alone = subst⁻¹ (λ (rs : List (List Move)). streakFrom (user .contract) τ rs begin 0 attempts ≤ 2 * k * τ .n) rows-back run-alone;
+      }
+
+pub demand-3 : Demand-3
+unfolding connectOf
+demand-3 R blank k old new work plan client user attempts z read =
+    let c = accepted (length work) (length plan) k old new z in
+    let b = both-elim 0 0 old new (c .sheets) (c .admitted .reads) in
+    let is-new : contractIn new ≡ c .sheets .two = contract-read new (b .sheet₂) (b .read₂) ∙ sym (b .is-two) in
+    let emits = emitted-is blank k old new (c .sheets) work (c .admitted) plan (c .situations) (c .states) (c .rounds) (c .emits) in
+    subst⁻¹ (λ (n : Contract). Runs k client old (user .contract) n (emittedPlan (connectOf blank k old new work plan)) attempts) is-new
+    (subst⁻¹ (λ (b : List ℕ). Runs k client old (user .contract) (c .sheets .two) b attempts) emits
+    (runs k (limitOf (length work)) (limit-few (length work)) (length plan) old new c client user read attempts))

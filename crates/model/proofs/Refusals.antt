@@ -1,0 +1,105 @@
+-- The numbers of refusals: a sheet is refused as 1 to 7, two sheets as 1 to 9. Each test gives its own number, so each
+-- reading is refused only as its tests and those it goes on with are.
+-- Assumes nothing.
+use mathlib.Core.Path.{_≡_, refl, sym, subst, _∙_}
+use mathlib.Core.Bool.{Bool, true, false, not, _&&_}
+use mathlib.Core.List.{List, [], _∷_}
+use Prim.Native.Nat.{ℕ, zero, suc, _+_, _-_, _*_, _≤_, _<_}
+use native.Mathlib.Omega.{arith}
+use lib.ListN.{length}
+use lib.Dec.{eqb, ltb, leb}
+use Rattle.model.specs.Lists.{keep}
+use Rattle.model.specs.Bytes.{byte, word}
+use Rattle.model.specs.Contract.{State, actions, offersIn}
+use Rattle.model.specs.Sheet.{Reading, good, refusal, check, then, Fault, Trailer, trailer, strayBit, Row, masksFrom, successorsFrom, rowWith, rowAt, statesFrom, Sheet, goodTrailer, readSheet, Refusal, inPlace, plain, Both, readBoth}
+
+-- a reading is refused only as P allows
+abbrev pub Only : {E A : Type 0} → (E → Type 0) → Reading E A → Type 0
+Only P (good a) = Unit {0}
+Only P (refusal e) = P e
+
+module _ {E : Type 0} (P : E → Type 0) where
+  only-check : {A : Type 0} (ok : Bool) (e : E) (r : Reading E A) → P e → Only P r → Only P (check ok e r)
+  unfolding check
+  only-check true e r p o = o
+  only-check false e r p o = p
+
+  only-then : {A B : Type 0} (r : Reading E A) (f : A → Reading E B) → Only P r → ((a : A) → Only P (f a)) → Only P (then r f)
+  unfolding then
+  only-then (good a) f o g = g a
+  only-then (refusal e) f o g = o
+
+  pub only-elim : {A : Type 0} (r : Reading E A) (e : E) → Only P r → r ≡ refusal e → P e
+  only-elim r e o q = subst (Only P) q o
+
+-- a number from 1 to a last one
+abbrev pub Numbered : ℕ → ℕ → Type 0
+Numbered last number = (1 ≤ number) × (number ≤ last)
+
+abbrev OfSheet : Fault → Type 0
+OfSheet f = Numbered 7 (f .number)
+
+module _ (b : List ℕ) (t : Trailer) where
+  only-masks : (q left low i : ℕ) → Only OfSheet (masksFrom b t q left low i)
+  unfolding masksFrom
+  only-masks q zero low i = tt
+  only-masks q (suc left) low i =
+      only-check OfSheet (leb low (word b i)) _ _ (omega arith, omega arith)
+      (only-check OfSheet (not (strayBit (t .n) (t .role) (word b i))) _ _ (omega arith, omega arith)
+      (only-then OfSheet (masksFrom b t q left (suc (word b i)) (i + 2)) _ (only-masks q left (suc (word b i)) (i + 2)) (λ masks. tt)))
+
+  only-successors : (q left i : ℕ) → Only OfSheet (successorsFrom b t q left i)
+  unfolding successorsFrom
+  only-successors q zero i = tt
+  only-successors q (suc left) i =
+      only-check OfSheet (ltb (byte b i) (t .count)) _ _ (omega arith, omega arith)
+      (only-then OfSheet (successorsFrom b t q left (i + 1)) _ (only-successors q left (i + 1)) (λ successors. tt))
+
+  only-row : (q i : ℕ) → Only OfSheet (rowAt b t q i)
+  unfolding rowAt rowWith
+  only-row q i =
+      only-check OfSheet (ltb i (t .index)) _ _ (omega arith, omega arith)
+      (only-check OfSheet (leb 1 (byte b i) && leb (byte b i) 8) _ _ (omega arith, omega arith)
+      (only-check OfSheet (leb (i + 1 + 2 * byte b i) (t .index)) _ _ (omega arith, omega arith)
+      (only-then OfSheet (masksFrom b t q (byte b i) 0 (i + 1)) _ (only-masks q (byte b i) 0 (i + 1))
+      (λ masks.
+      let offered = length (keep (offersIn masks) actions) in
+      let place = i + 1 + 2 * byte b i in
+      only-check OfSheet (leb (place + offered) (t .index)) _ _ (omega arith, omega arith)
+      (only-then OfSheet (successorsFrom b t q offered place) _ (only-successors q offered place) (λ successors. tt))))))
+
+  only-states : (left q i : ℕ) → Only OfSheet (statesFrom b t left q i)
+  unfolding statesFrom
+  only-states zero q i = only-check OfSheet (eqb i (t .index)) _ _ (omega arith, omega arith) tt
+  only-states (suc left) q i =
+      only-check OfSheet (eqb (word b (t .index + 2 * q)) i) _ _ (omega arith, omega arith)
+      (only-then OfSheet (rowAt b t q i) _ (only-row q i)
+      (λ row. only-then OfSheet (statesFrom b t left (suc q) (row .behind)) _ (only-states left (suc q) (row .behind)) (λ states. tt)))
+
+-- a sheet is refused as 1 to 7
+pub sheet-numbers : (b : List ℕ) → Only OfSheet (readSheet b)
+unfolding readSheet
+sheet-numbers b =
+    let t = trailer b in
+    only-check OfSheet (leb 6 (length b) && leb (length b) 2118) _ _ (omega arith, omega arith)
+    (only-check OfSheet (goodTrailer t) _ _ (omega arith, omega arith)
+    (only-check OfSheet (eqb (t .index + 2 * t .count + 6) (length b)) _ _ (omega arith, omega arith)
+    (only-then OfSheet (statesFrom b t (t .count) 0 0) _ (only-states b t (t .count) 0 0) (λ states. tt))))
+
+abbrev OfBoth : Refusal → Type 0
+OfBoth r = Numbered 9 (r .number)
+
+only-place : (p : ℕ) (r : Reading Fault Sheet) → Only OfSheet r → Only OfBoth (inPlace p r)
+unfolding inPlace
+only-place p (good s) o = tt
+only-place p (refusal f) o = (o .0, omega (arith, o .1))
+
+-- two sheets are refused as 1 to 9
+pub both-numbers : (role₁ role₂ : ℕ) (b₁ b₂ : List ℕ) → Only OfBoth (readBoth role₁ role₂ b₁ b₂)
+unfolding readBoth plain
+both-numbers role₁ role₂ b₁ b₂ =
+    only-then OfBoth (inPlace 1 (readSheet b₁)) _ (only-place 1 (readSheet b₁) (sheet-numbers b₁))
+    (λ s₁. only-then OfBoth (inPlace 2 (readSheet b₂)) _ (only-place 2 (readSheet b₂) (sheet-numbers b₂))
+    (λ s₂. only-check OfBoth (eqb (s₁ .role) role₁) _ _ (omega arith, omega arith)
+    (only-check OfBoth (eqb (s₂ .role) role₂) _ _ (omega arith, omega arith)
+    (only-check OfBoth (eqb (s₁ .contract .n) (s₂ .contract .n)) _ _ (omega arith, omega arith) tt))))

@@ -1,0 +1,157 @@
+-- What is promised: the three demands as types. They are proved by `demand-1`, `demand-2` and `demand-3`
+-- of proofs/Demand1.antt, Demand2.antt and Demand3.antt.
+-- Assumes nothing.
+use mathlib.Core.Path.{_≡_}
+use mathlib.Core.Bool.{true}
+use mathlib.Core.Logic.{_↔_, _⊎_}
+use mathlib.Core.List.{List, [], _∷_, _++_, map, List·Memᴰ}
+use mathlib.Core.Option.{some}
+use Prim.Native.Nat.{ℕ, _*_, _≤_, _<_}
+use lib.ListN.{length, getD, getElem?, take, drop}
+use lib.Dec.{T}
+use Rattle.model.specs.Lists.{Distinct}
+use Rattle.model.specs.Contract.{Contract, has}
+use Rattle.model.specs.Sheet.{Sheet, good, Both, readSheet, readBoth, contractIn}
+use Rattle.model.specs.Situation.{Situation, start, alike, codes, next}
+use Rattle.model.specs.Search.{Reached}
+use Rattle.model.specs.Plan.{held, rowsIn, Stepped, stepRow, stepOf}
+use Rattle.model.specs.Connect.{Answer, Connected, limitOf, connectOf}
+use Rattle.model.specs.Client.{compliesOf}
+use Rattle.model.specs.Run.{begin, Attempt, rowAtRun, runFrom, streakFrom, Standstill}
+use Rattle.model.specs.Weak.{Largest}
+
+-- ---- demand 1
+
+-- What demand 1 says of connecting: a number of document 01's table, "On a refusal the lent plan is untouched and the lent work
+-- table is as 01 says".
+pub record Answers {R : Type 0} (blank : R) (work : List R) (plan : List ℕ) (c : Connected R) : Type 0 where
+  pub number : c .answer .number ≤ 13
+  -- a refusal: the length is 0 and the lent plan is as it was
+  pub refused : (c .answer .number ≡ 0 → ⊥) → (c .answer .length ≡ 0) × (c .plan ≡ plan)
+  -- acceptance: the plan is within what was lent, and the bytes beyond it are as they were
+  pub beyond : (c .answer .length ≤ length plan) × (drop (c .answer .length) (c .plan) ≡ drop (c .answer .length) plan)
+  -- refusals 1 to 10 leave the work table as it was, after every other call each record is zero
+  pub unchanged : 1 ≤ c .answer .number → c .answer .number ≤ 10 → c .work ≡ work
+  pub cleared : (c .answer .number ≡ 0) ⊎ (10 < c .answer .number) → c .work ≡ map (λ r. blank) work
+
+-- the numbers that stepping answers, with no state on a refusal
+pub record Steps (s : Stepped) : Type 0 where
+  pub number : (s .number ≡ 0) ⊎ (14 ≤ s .number)
+  pub table : s .number ≤ 16
+  pub refused : (s .number ≡ 0 → ⊥) → s .state ≡ 0
+
+-- "Every entry point takes bytes of all kinds and lengths and answers with a result or a refusal of document 01's table."
+pub record Demand-1 : Type 1 where
+  pub connects : (R : Type 0) (blank : R) (k : ℕ) (old new : List ℕ) (work : List R) (plan : List ℕ)
+      → Answers blank work plan (connectOf blank k old new work plan)
+  pub steps : (plan : List ℕ) (state code : ℕ) → Steps (stepOf plan state code)
+  pub complies : (client service : List ℕ) → compliesOf client service .number ≤ 9
+
+-- the emitted plan "at its answered length"
+abbrev pub emittedPlan : {R : Type 0} → Connected R → List ℕ
+emittedPlan c = take (c .answer .length) (c .plan)
+
+-- ---- demand 2
+
+-- A pair within the limits of refusals 1 to 10: two service sheets over the same names, and k at most 3.
+pub record Admitted (k : ℕ) (old new : List ℕ) (sheets : Both) : Type 0 where
+  pub reads : readBoth 0 0 old new ≡ good sheets
+  pub rank : k ≤ 3
+
+module _ (k : ℕ) (σ τ : Contract) where
+  -- the situation is reached from the start by enabled moves
+  abbrev pub IsReached : Situation → Type 0
+  IsReached s = Reached codes (next (alike k) σ τ) start s
+
+  -- more than so many situations are reached
+  abbrev pub Exceed : ℕ → Type 0
+  Exceed limit = (l : List Situation) × Distinct l × ((s : Situation) → List·Memᴰ s l → IsReached s) × (limit < length l)
+
+  -- so many situations are reached
+  abbrev pub ReachedCount : ℕ → Type 0
+  ReachedCount count = (l : List Situation) × Distinct l × ((s : Situation) → List·Memᴰ s l ↔ IsReached s) × (length l ≡ count)
+
+  -- some relation of definition 3.7 holds the situation
+  abbrev pub Related : Situation → Type 1
+  Related s = Largest (alike k) σ τ s
+
+  -- The plan that bytes are holds every move that the largest relation of definition 3.7 allows, and no others: its state i
+  -- stands for the reached situation i of a list, the first of which is the start.
+  pub record HoldsLargest (bytes : List ℕ) : Type 1 where
+    pub states : List Situation
+    pub first : getElem? states 0 ≡ some start
+    pub distinct : Distinct states
+    pub reached : (s : Situation) → List·Memᴰ s states → IsReached s
+    pub rows : length (rowsIn bytes) ≡ length states
+    -- no others: a code of row i is that of a move enabled in situation i, which leads into the largest relation, to the
+    -- situation that the row's next state stands for
+    pub only : (i code to : ℕ) (s : Situation) → getElem? states i ≡ some s → held (getD (rowsIn bytes) i []) code ≡ some to
+        → (t : Situation) × List·Memᴰ code codes × (next (alike k) σ τ s code ≡ some t) × Related t × (getElem? states to ≡ some t)
+    -- every: each such move has its code in row i, with the next state that stands for where it leads
+    pub every : (i code : ℕ) (s t : Situation) → getElem? states i ≡ some s → List·Memᴰ code codes → next (alike k) σ τ s code ≡ some t → Related t
+        → (to : ℕ) × (held (getD (rowsIn bytes) i []) code ≡ some to) × (getElem? states to ≡ some t)
+
+module _ {R : Type 0} (blank : R) (k : ℕ) (old new : List ℕ) (sheets : Both) (work : List R) where
+  -- the outcome and its number, by the plan that is lent
+  abbrev pub outcome : List ℕ → Connected R
+  outcome plan = connectOf blank k old new work plan
+
+  abbrev pub number : List ℕ → ℕ
+  number plan = outcome plan .answer .number
+
+  abbrev pub σ : Contract
+  σ = sheets .one
+
+  abbrev pub τ : Contract
+  τ = sheets .two
+
+  -- what demand 2 says of an admitted pair, with these records and this plan lent
+  pub record Decides (plan : List ℕ) : Type 1 where
+    -- 11 exactly when the reached situations exceed the lent records or 4,096
+    pub capacity : (number plan ≡ 11) ↔ Exceed k σ τ (limitOf (length work))
+    -- else, where the plan fits, acceptance exactly if some relation of definition 3.7 holds the start
+    pub accepts : (number plan ≡ 11 → ⊥) → (number plan ≡ 13 → ⊥) → (number plan ≡ 0) ↔ Related k σ τ start
+    -- and 12 exactly if none does
+    pub refuses : (number plan ≡ 11 → ⊥) → (number plan ≡ 12) ↔ (Related k σ τ start → ⊥)
+    -- the plan has a size: a lent plan of that size or more is accepted, a shorter one is refused as 13
+    pub room : (number plan ≡ 11 → ⊥) → Related k σ τ start
+        → (size : ℕ)
+        × ((p : List ℕ) → size ≤ length p → (number p ≡ 0) × (outcome p .answer .length ≡ size))
+        × ((p : List ℕ) → length p < size → number p ≡ 13)
+    -- the situations figure is the number of reached situations, and the rounds figure is no larger
+    pub situations : (number plan ≡ 11 → ⊥) → ReachedCount k σ τ (outcome plan .answer .situations)
+    pub rounds : outcome plan .answer .rounds ≤ outcome plan .answer .situations
+    -- the plan states figure is the number of the emitted plan's rows
+    pub states : number plan ≡ 0 → outcome plan .answer .states ≡ length (rowsIn (emittedPlan (outcome plan)))
+    -- an emitted plan holds every move that the largest relation allows, and no others
+    pub emitted : number plan ≡ 0 → HoldsLargest k σ τ (emittedPlan (outcome plan))
+
+-- "A pair within the limits is accepted if and only if some weak k-subcontract relation (definition 3.7 of Padovani 2010) holds
+-- the starting situation; else it is refused as 12. The plan holds every move that the largest such relation allows, and no
+-- others."
+abbrev pub Demand-2 : Type 1
+Demand-2 =
+    (R : Type 0) (blank : R) (k : ℕ) (old new : List ℕ) (sheets : Both) (work : List R) (plan : List ℕ)
+    → Admitted k old new sheets → Decides blank k old new sheets work plan
+
+-- ---- demand 3
+
+-- what demand 3 says of a plan's bytes, for a list of attempts with a client, the old contract's sheet and the new contract
+pub record Runs (k : ℕ) (client old : List ℕ) (user new : Contract) (bytes : List ℕ) (attempts : List Attempt) : Type 0 where
+  -- at each attempt, refused or not, stepping gives 0 and the row's next state if the row of the run's plan state holds the
+  -- code, else 16 and 0
+  pub steps : (before after : List Attempt) (a : Attempt) → attempts ≡ before ++ a ∷ after
+      → stepOf bytes (runFrom user new (rowsIn bytes) begin before .plan) (a .code)
+      ≡ stepRow (held (rowAtRun user new (rowsIn bytes) (runFrom user new (rowsIn bytes) begin before)) (a .code))
+  -- after the list, if the client complies with the old contract, a choice is a standstill only if R has the success mark
+  pub no-standstill : (compliesOf client old .number ≡ 0) × (compliesOf client old .yes ≡ true)
+      → (R S : ℕ) → Standstill user new (rowsIn bytes) (runFrom user new (rowsIn bytes) begin attempts) R S → T (has R 14)
+  -- at most 2 times k times n service-alone moves come in a row, refused attempts left out
+  pub few-alone : streakFrom user new (rowsIn bytes) begin 0 attempts ≤ 2 * k * new .n
+
+-- "One claim about the whole list of attempted moves of a run of an emitted plan, for any client"
+abbrev pub Demand-3 : Type 1
+Demand-3 =
+    (R : Type 0) (blank : R) (k : ℕ) (old new : List ℕ) (work : List R) (plan : List ℕ) (client : List ℕ) (user : Sheet) (attempts : List Attempt)
+    → connectOf blank k old new work plan .answer .number ≡ 0 → readSheet client ≡ good user
+    → Runs k client old (user .contract) (contractIn new) (emittedPlan (connectOf blank k old new work plan)) attempts
