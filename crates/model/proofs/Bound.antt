@@ -1,18 +1,18 @@
 -- What is left for the service alone: waiting messages for it and free places for the client. Each service-alone move uses
 -- one up, and there are never more than the limits of the used names allow.
 -- Assumes nothing.
-use mathlib.Core.Path.{_≡_, refl, sym, ap, ap₂, subst, subst⁻¹, _∙_}
+use mathlib.Core.Path.{_≡_, refl, sym, ap, subst, subst⁻¹, _∙_}
 use mathlib.Core.Bool.{Bool, true, false, cond}
-use mathlib.Core.Logic.{_⊎_, inl, inr, ⊎-elim, _≢_}
-use mathlib.Core.Option.{Option, none, some, Option·some-injective}
-use mathlib.Core.List.{List, [], _∷_, List·Memᴰ}
-use Prim.Native.Nat.{ℕ, zero, suc, _+_, _-_, _*_, _≤_, _<_, max}
+use mathlib.Core.Logic.{_⊎_, ⊎-elim, _≢_}
+use mathlib.Core.Option.{some, Option·some-injective}
+use mathlib.Core.List.{List}
+use Prim.Native.Nat.{ℕ, zero, suc, _+_, _-_, _*_, _≤_, _<_}
 use native.Mathlib.Omega.{arith}
 use native.Mathlib.Nat.{suc-mul, mul-comm, mul-assoc, eq-or-lt-of-le}
 use lib.ListN.{length, getD, set, replicate, getD-replicate}
 use lib.Seq.{getD-set-other, getD-set-same}
-use lib.Dec.{T, ltb, leb, ltb→lt}
-use borrow.Author.Tests.{lt-ltb, le-ltb, ltb-true, ltb-false, leb-false, leb-true}
+use lib.Dec.{ltb, ltb→lt}
+use borrow.Author.Tests.{ltb-true, ltb-false}
 use Rattle.model.specs.Contract.{takes, name}
 use Rattle.model.specs.Situation.{alike, service, bufferAfter, raised, lowered}
 use Rattle.model.specs.Weak.{Rank}

@@ -1,9 +1,9 @@
 -- M1 to M13 follow from the definitions: one theorem over the rows of the table, by computation.
 -- Assumes nothing.
 use mathlib.Core.Path.{_≡_, refl, ap, _∙_, sym}
-use mathlib.Core.List.{List, [], _∷_, _++_, map, List·Memᴰ, List·Memᴰ·head, List·Memᴰ·tail, head-eq-of-cons-eq, tail-eq-of-cons-eq}
+use mathlib.Core.List.{List, _++_, map, List·Memᴰ, List·Memᴰ·head, List·Memᴰ·tail, head-eq-of-cons-eq, tail-eq-of-cons-eq}
 use Prim.Native.Nat.{ℕ}
-use lib.ListN.{length, replicate, take, drop}
+use lib.ListN.{replicate}
 use Rattle.model.specs.Lists.{any, all, keep, place, upto}
 use Rattle.model.specs.Bytes.{byte, word, dword, le16, le32}
 use Rattle.model.specs.Contract.{actions, takes, name, partner, has, nowhere, state, offersIn, offers, offeredBelow, after}

@@ -2,26 +2,24 @@
 -- of search, rounds and plan give there.
 -- Assumes nothing.
 use mathlib.Core.Path.{_≡_, refl, sym, ap, subst, subst⁻¹, _∙_}
-use mathlib.Core.Bool.{Bool, true, false, cond, _&&_}
-use mathlib.Core.Logic.{_≢_, _↔_, inl, inr, ⊎-elim, _⊎_}
-use mathlib.Core.Option.{Option, none, some, Option·some-injective, Option·none-ne-some}
-use mathlib.Core.List.{List, [], _∷_, _++_, map, append-nil, nil≢cons, List·Memᴰ, List·Memᴰ·head, List·Memᴰ·tail, Memᴰ·of-map}
-use Prim.Native.Nat.{ℕ, zero, suc, _+_, _*_, _≤_, _<_, min}
+use mathlib.Core.Bool.{_&&_}
+use mathlib.Core.Logic.{_≢_, _↔_, inl, inr, _⊎_}
+use mathlib.Core.Option.{Option, some, Option·some-injective}
+use mathlib.Core.List.{List, [], _∷_, _++_, append-nil, nil≢cons, List·Memᴰ, List·Memᴰ·head, List·Memᴰ·tail, Memᴰ·of-map}
+use Prim.Native.Nat.{ℕ, _+_, _*_, _≤_, _<_}
 use native.Mathlib.Omega.{arith}
-use lib.ListN.{length, getD, getElem?, take, drop, length-append, length-map}
-use lib.Seq.{take-append-seam}
-use lib.Dec.{T, leb, leb→le, le→leb, ltb, ltb→lt}
+use lib.ListN.{length, getD, getElem?, length-append, length-map}
+use lib.Dec.{T, leb, leb→le, le→leb, ltb}
 use Rattle.model.specs.Lists.{Distinct, all}
 use Rattle.model.specs.Contract.{Contract}
 use Rattle.model.specs.Situation.{Situation, start, alike, same, kindOf, codes, next}
 use Rattle.model.specs.Test.{test}
-use Rattle.model.specs.Search.{Reached, at-start, by-move, Search, member, searchFrom}
-use Rattle.model.specs.Rounds.{Settled, settled, movesInto}
-use Rattle.model.specs.Plan.{Move, held, planStates, rowOf, planRows, moveBytes, rowBytes, rowsBytes, planBytes, namedBelow, ascending, goodRow, Plan, readPlan, rowsOf, rowsIn}
+use Rattle.model.specs.Search.{at-start, by-move, Search, member, searchFrom}
+use Rattle.model.specs.Rounds.{Settled}
+use Rattle.model.specs.Plan.{Move, held, planStates, rowOf, planRows, moveBytes, rowBytes, rowsBytes, planBytes, namedBelow, ascending, goodRow, readPlan, rowsOf, rowsIn}
 use Rattle.model.specs.Sheet.{plain}
 use Rattle.model.specs.Connect.{Outcome, refused, counted, settledOf, rowsFor, emitted, related, found, connected}
-use Rattle.model.specs.Weak.{Largest}
-use Rattle.model.specs.Demands.{IsReached, Exceed, ReachedCount, Related, HoldsLargest}
+use Rattle.model.specs.Demands.{Exceed, ReachedCount, Related, HoldsLargest}
 use Rattle.model.proofs.Lists.{and-both, dec-T, cond-yes, cond-no}
 use Rattle.model.proofs.Rounds.{member-intro, member-elim, moves-intro, settled-from}
 use Rattle.model.proofs.Search.{Inv, search-inv, search-all, search-cut, search-few, pigeons}
@@ -208,8 +206,7 @@ module _ (k : ℕ) (σ τ : Contract) (limit : ℕ) where
           let kept-t = largest-is-kept (alike k) σ τ limit whole t reached-t r in
           let w = row-intro same is-same codes nx (left .kept) start begun s code (moves-intro same is-same codes nx (left .kept) s code t m x kept-t) in
           let v = row-elim same is-same codes nx (left .kept) start begun s code (w .0) here (w .1) .1 in
-          let q : v .0 ≡ t = Option·some-injective (v .0) t (sym (v .1) ∙ x) in
-          (
+          let q : v .0 ≡ t = Option·some-injective (v .0) t (sym (v .1) ∙ x) in (
             w .0,
             subst⁻¹ (λ (r : List Move). held r code ≡ some (w .0)) (row-of i s e) (w .1),
             subst (λ (t : Situation). getElem? states (w .0) ≡ some t) q (v .3),

@@ -110,4 +110,3 @@ demand-1 =
       steps = λ plan state code. step-in (readPlan plan) state code;
       complies = λ client service. check-number (readBoth 1 0 client service) (both-numbers 1 0 client service);
     }
-

@@ -145,7 +145,7 @@ module _ {R : Type 0} (blank : R) (k : ℕ) (old new : List ℕ) (sheets : Both)
         (λ z.
         let zero-last : last ≡ 0 = omega (arith, is-last, z) in
         let whole : counted last (length (search .done)) (length (rowsFor k σ τ kept)) (settledOf k σ τ (search .done) .rounds) emitted
-            ≡ counted 0 (length (search .done)) (length (rowsFor k σ τ kept)) (settledOf k σ τ (search .done) .rounds) bytes =
+        ≡ counted 0 (length (search .done)) (length (rowsFor k σ τ kept)) (settledOf k σ τ (search .done) .rounds) bytes =
         (λ i. counted (zero-last i) (length (search .done)) (length (rowsFor k σ τ kept)) (settledOf k σ τ (search .done) .rounds) (full zero-last i)) in
         emitted-is plan (length (search .done)) (length (rowsFor k σ τ kept)) (settledOf k σ τ (search .done) .rounds) (e ∙ whole)) in
         record {
@@ -174,4 +174,3 @@ module _ {R : Type 0} (blank : R) (k : ℕ) (old new : List ℕ) (sheets : Both)
 pub demand-2 : Demand-2
 demand-2 R blank k old new sheets work plan a =
     decides blank k old new sheets work a plan (shape k (sheets .one) (sheets .two) (limitOf (length work)) (length plan))
-

@@ -32,7 +32,6 @@ use Rattle.model.proofs.Client.{complies-sound}
 use Rattle.model.proofs.Bound.{allowed-alike}
 use Rattle.model.proofs.Run.{Tied, tied-begin, tied-run, no-standstill, few-alone}
 use Rattle.model.proofs.Connect.{Shape, cut-off, removed, too-long, fits, shape, emitted-reads, emitted-rows, rows-states}
-
 use Rattle.model.proofs.Demand2.{limit-few, emitted-is}
 
 -- what acceptance gives

@@ -1,20 +1,20 @@
 -- A plan reads back as it was written.
 -- Assumes nothing.
-use mathlib.Core.Path.{_≡_, refl, sym, ap, ap₂, subst, subst⁻¹, _∙_}
-use mathlib.Core.Bool.{Bool, true, false, cond, _&&_, _||_}
+use mathlib.Core.Path.{_≡_, refl, sym, ap, subst, _∙_}
+use mathlib.Core.Bool.{_&&_}
 use mathlib.Core.List.{List, [], _∷_, _++_, List·Memᴰ, List·Memᴰ·head, List·Memᴰ·tail}
-use mathlib.Core.Option.{Option, none, some, Option·map}
-use Prim.Native.Nat.{ℕ, zero, suc, _+_, _-_, _*_, _/_, _%_, _≤_, _<_}
+use mathlib.Core.Option.{none, some}
+use Prim.Native.Nat.{ℕ, suc, _+_, _-_, _*_, _/_, _%_, _≤_, _<_}
 use native.Mathlib.Omega.{arith}
 use native.Mathlib.Nat.{zero-add, add-zero, add-assoc}
 use lib.ListN.{length, getD, length-append, List·getD-append}
 use lib.Seq.{getD-append-add}
-use lib.Dec.{T, eqb, leb, ltb, ltb→lt, leb→le, le→leb, eqb-refl}
+use lib.Dec.{T, eqb, leb, ltb, ltb→lt, le→leb, eqb-refl}
 use borrow.Author.Tests.{le-leb, eq-eqb}
 use Rattle.model.specs.Lists.{all}
 use Rattle.model.specs.Bytes.{byte, word, dword, le16, le32}
 use Rattle.model.specs.Situation.{kindOf}
-use Rattle.model.specs.Plan.{Move, moveBytes, rowBytes, rowsBytes, indexBytes, planBytes, namedBelow, ascending, goodRow, readMoves, readRows, Plan, readWith, readPlan}
+use Rattle.model.specs.Plan.{Move, moveBytes, rowBytes, rowsBytes, indexBytes, planBytes, namedBelow, ascending, goodRow, readMoves, readRows, readWith, readPlan}
 use Rattle.model.proofs.Lists.{and-of, and-both, all-elim, cond-yes}
 
 -- the bytes xs stand at i in b

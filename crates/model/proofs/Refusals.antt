@@ -1,17 +1,17 @@
 -- The numbers of refusals: a sheet is refused as 1 to 7, two sheets as 1 to 9. Each test gives its own number, so each
 -- reading is refused only as its tests and those it goes on with are.
 -- Assumes nothing.
-use mathlib.Core.Path.{_≡_, refl, sym, subst, _∙_}
+use mathlib.Core.Path.{_≡_, subst}
 use mathlib.Core.Bool.{Bool, true, false, not, _&&_}
-use mathlib.Core.List.{List, [], _∷_}
-use Prim.Native.Nat.{ℕ, zero, suc, _+_, _-_, _*_, _≤_, _<_}
+use mathlib.Core.List.{List}
+use Prim.Native.Nat.{ℕ, zero, suc, _+_, _-_, _*_, _≤_}
 use native.Mathlib.Omega.{arith}
 use lib.ListN.{length}
 use lib.Dec.{eqb, ltb, leb}
 use Rattle.model.specs.Lists.{keep}
 use Rattle.model.specs.Bytes.{byte, word}
-use Rattle.model.specs.Contract.{State, actions, offersIn}
-use Rattle.model.specs.Sheet.{Reading, good, refusal, check, then, Fault, Trailer, trailer, strayBit, Row, masksFrom, successorsFrom, rowWith, rowAt, statesFrom, Sheet, goodTrailer, readSheet, Refusal, inPlace, plain, Both, readBoth}
+use Rattle.model.specs.Contract.{actions, offersIn}
+use Rattle.model.specs.Sheet.{Reading, good, refusal, check, then, Fault, Trailer, trailer, strayBit, masksFrom, successorsFrom, rowWith, rowAt, statesFrom, Sheet, goodTrailer, readSheet, Refusal, inPlace, plain, readBoth}
 
 -- a reading is refused only as P allows
 abbrev pub Only : {E A : Type 0} → (E → Type 0) → Reading E A → Type 0

@@ -3,16 +3,16 @@
 -- row use up what is left for them.
 -- Assumes nothing.
 use mathlib.Core.Path.{_≡_, refl, sym, ap, subst, subst⁻¹, _∙_}
-use mathlib.Core.Bool.{Bool, true, false, _&&_, cond}
-use mathlib.Core.Logic.{inl, inr, ⊎-elim}
-use mathlib.Core.Option.{Option, none, some, Option·some-injective, Option·none-ne-some}
-use mathlib.Core.List.{List, [], _∷_, map, List·Memᴰ}
-use Prim.Native.Nat.{ℕ, zero, suc, _+_, _-_, _≤_, _<_, max}
+use mathlib.Core.Bool.{Bool, true, false, _&&_}
+use mathlib.Core.Logic.{⊎-elim}
+use mathlib.Core.Option.{Option, none, some, Option·some-injective}
+use mathlib.Core.List.{List, [], _∷_, List·Memᴰ}
+use Prim.Native.Nat.{ℕ, suc, _+_, _-_, _≤_, _<_}
 use native.Mathlib.Omega.{arith}
-use lib.ListN.{length, getD, getElem?}
+use lib.ListN.{getElem?}
 use lib.Dec.{T}
 use Rattle.model.specs.Contract.{Contract, partner, has, state, offers, after, name}
-use Rattle.model.specs.Situation.{Situation, Kind, straight, client, service, stray, kindOf, start, same, codes, bufferAfter, offered, oldAfter, newAfter, next}
+use Rattle.model.specs.Situation.{Situation, Kind, straight, client, service, stray, kindOf, start, same, codes, offered, oldAfter, newAfter, next}
 use Rattle.model.specs.Test.{listed}
 use Rattle.model.specs.Plan.{Move, held, planStates, rowOf, planRows}
 use Rattle.model.specs.Client.{Meet, met-first, met-on, Complies}
@@ -20,7 +20,7 @@ use Rattle.model.specs.Run.{Run, begin, Attempt, need, isAlone, streakOv
 use Rattle.model.specs.Weak.{Rank}
 use Rattle.model.proofs.Lists.{and-both, and-of, cond-some}
 use Rattle.model.proofs.Rounds.{Step, Closed, moves-intro}
-use Rattle.model.proofs.Situation.{is-same, code-elim, kind-straight, kind-client, kind-service, behind, next-elim}
+use Rattle.model.proofs.Situation.{is-same, code-elim, kind-straight, kind-client, kind-service, next-elim}
 use Rattle.model.proofs.Test.{listed-elim, PassesAt}
 use Rattle.model.proofs.Weak.{offers-of}
 use Rattle.model.proofs.Bound.{left, allowed, left-allowed, left-less}

@@ -1,11 +1,11 @@
 -- The test of a situation computes condition (1) of definition 3.7 of Padovani 2010, which grows with the set of actions.
 -- Assumes nothing.
-use mathlib.Core.Bool.{Bool, true, false, cond, _&&_, _||_}
+use mathlib.Core.Bool.{Bool, true, false, cond, _&&_}
 use mathlib.Core.Logic.{_⊎_, inl, inr, ⊎-elim}
 use mathlib.Core.List.{List, List·Memᴰ, Memᴰ·cast}
-use Prim.Native.Nat.{ℕ, _+_, _<_}
+use Prim.Native.Nat.{ℕ, _+_}
 use lib.Dec.{T, eqb, eqb→eq, eqb-refl}
-use Rattle.model.specs.Lists.{any, all}
+use Rattle.model.specs.Lists.{any}
 use Rattle.model.specs.Contract.{Contract, State, actions, has, state}
 use Rattle.model.specs.Situation.{Situation}
 use Rattle.model.specs.Test.{listed, covered, covers, hope, answered, test}

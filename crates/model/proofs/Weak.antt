@@ -1,21 +1,19 @@
 -- Relations of definition 3.7 of Padovani 2010 are exactly the relations on ranked situations that are closed under document
 -- 01's moves and test; so what the rounds keep is the largest of them among the reached situations.
 -- Assumes nothing.
-use mathlib.Core.Path.{_≡_, refl, sym, ap, subst, subst⁻¹, _∙_}
+use mathlib.Core.Path.{_≡_, refl, sym, subst, subst⁻¹, _∙_}
 use mathlib.Core.Logic.{inl, inr, ⊎-elim}
 use mathlib.Core.Option.{Option, some, Option·some-injective}
-use mathlib.Core.List.{List, [], _∷_, List·Memᴰ, Memᴰ·append-left}
-use mathlib.Core.Bool.{Bool, true, false, _&&_}
+use mathlib.Core.List.{List, [], List·Memᴰ, Memᴰ·append-left}
 use Prim.Native.Nat.{ℕ, _+_, _≤_, _<_}
-use native.Mathlib.Nat.{le-refl}
 use lib.ListN.{length}
 use lib.Dec.{T}
 use Rattle.model.specs.Contract.{Contract, State, has, state, offersIn, offers, after}
-use Rattle.model.specs.Situation.{Situation, Kind, straight, client, service, kindOf, start, same, codes, bufferAfter, offered, oldAfter, newAfter, next}
+use Rattle.model.specs.Situation.{Situation, straight, client, service, kindOf, start, same, codes, bufferAfter, offered, oldAfter, newAfter, next}
 use Rattle.model.specs.Test.{test}
-use Rattle.model.specs.Search.{Reached, at-start, by-move, Search, searchFrom}
+use Rattle.model.specs.Search.{Reached, at-start, by-move, searchFrom}
 use Rattle.model.specs.Rounds.{Settled, settled}
-use Rattle.model.specs.Weak.{Rank, Passes, clientEffect, serviceEffect, Weak, IsWeak, Largest}
+use Rattle.model.specs.Weak.{Rank, clientEffect, serviceEffect, Weak, IsWeak, Largest}
 use Rattle.model.proofs.Lists.{any-intro, and-both, and-of}
 use Rattle.model.proofs.Rounds.{Step, Closed, settled-closed, settled-largest, settled-from, settled-rounds}
 use Rattle.model.proofs.Search.{search-inv, search-all}

@@ -6,10 +6,10 @@ use Prim.Native.Nat.{ℕ, min}
 use lib.ListN.{length, drop}
 use lib.Dec.{eqb, ltb, leb}
 use Rattle.model.specs.Contract.{Contract}
-use Rattle.model.specs.Sheet.{Reading, good, refusal, Both, Refusal, plain, check, then, readBoth}
+use Rattle.model.specs.Sheet.{Reading, good, refusal, Both, Refusal, plain, readBoth}
 use Rattle.model.specs.Situation.{Situation, same, start, alike, codes, next}
 use Rattle.model.specs.Test.{test}
-use Rattle.model.specs.Search.{Search, searchFrom, member}
+use Rattle.model.specs.Search.{searchFrom, member}
 use Rattle.model.specs.Rounds.{Settled, settled}
 use Rattle.model.specs.Plan.{Move, planRows, planBytes}
 

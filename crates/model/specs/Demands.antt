@@ -15,7 +15,7 @@ use Rattle.model.specs.Sheet.{Sheet, good, Both, readSheet, readBoth, co
 use Rattle.model.specs.Situation.{Situation, start, alike, codes, next}
 use Rattle.model.specs.Search.{Reached}
 use Rattle.model.specs.Plan.{held, rowsIn, Stepped, stepRow, stepOf}
-use Rattle.model.specs.Connect.{Answer, Connected, limitOf, connectOf}
+use Rattle.model.specs.Connect.{Connected, limitOf, connectOf}
 use Rattle.model.specs.Client.{compliesOf}
 use Rattle.model.specs.Run.{begin, Attempt, rowAtRun, runFrom, streakFrom, Standstill}
 use Rattle.model.specs.Weak.{Largest}
