@@ -1,13 +1,15 @@
 // Contract sheets: whether bytes are a sheet, and what stands in one. Document 01, "Contracts as sheets".
 ghost use mathlib.Core.Path.{_≡_};
 ghost use mathlib.Core.Bool.{true};
+ghost use mathlib.Core.List.{[], _∷_};
 ghost use Prim.Native.Nat.{_+_, _*_, _≤_, _<_};
 ghost use lib.ListN.{length, getD};
 ghost use Rattle.model.specs.Bytes.{word};
 ghost use Rattle.model.specs.Contract.{state, has, offers, after};
-ghost use Rattle.model.specs.Sheet.{trailer, goodTrailer, strayBit, masksFrom, successorsFrom, rowAt, statesFrom, readSheet, contractIn, roleIn};
+ghost use Rattle.model.specs.Sheet.{trailer, goodTrailer, strayBit, masksFrom, successorsFrom, rowWith, rowAt, statesFrom, readSheet, contractIn, roleIn};
+ghost use Rattle.sheet.specs.Union.{unionOf, onesBelow};
 ghost use Rattle.sheet.specs.Checked.{trailerOf, checkedOf, unionIn, behindIn};
-ghost use Rattle.sheet.specs.Stands.{IsSheet, rowStart, unionOf, onesBelow};
+ghost use Rattle.sheet.specs.Whole.{IsSheet, rowStart};
 
 // The last 6 bytes of a sheet.
 pub struct Trailer {
@@ -166,7 +168,10 @@ pub fn check_row(b: &[u8], t: Trailer, q: u8, at: usize) -> Row
 }
 
 // What follows the masks of state q, whose union is given: a successor for each offered action.
-pub fn check_behind(b: &[u8], t: Trailer, q: u8, at: usize, union: u16) -> Row {
+pub fn check_behind(b: &[u8], t: Trailer, q: u8, at: usize, union: u16) -> Row
+    requires { ⌜ (at ≤ t .index) × (t .index ≤ length (now b)) × (length (now b) ≤ 2118) ⌝ }
+    ensures { λ r. ⌜ r ≡ behindIn (rowWith (now (b .entry)) (trailerOf t) q at (union ∷ [])) ⌝ }
+{
     let index = t.index as usize;
     let offered = ones_below(union, 14);
     if index < at + offered {

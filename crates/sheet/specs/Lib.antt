@@ -1,0 +1,3 @@
+pub mod Union
+pub mod Checked
+pub mod Whole
