@@ -1,3 +1,3 @@
 pub mod Union
-pub mod Checked
+pub mod Answers
 pub mod Whole

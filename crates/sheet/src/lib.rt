@@ -8,7 +8,7 @@ ghost use Rattle.model.specs.Bytes.{word};
 ghost use Rattle.model.specs.Contract.{state, has, offers, after};
 ghost use Rattle.model.specs.Sheet.{trailer, goodTrailer, strayBit, masksFrom, successorsFrom, rowWith, rowAt, statesFrom, readSheet, contractIn, roleIn};
 ghost use Rattle.sheet.specs.Union.{unionOf, onesBelow};
-ghost use Rattle.sheet.specs.Checked.{trailerOf, checkedOf, unionIn, behindIn};
+ghost use Rattle.sheet.specs.Answers.{trailerOf, checkedOf, unionIn, behindIn};
 ghost use Rattle.sheet.specs.Whole.{IsSheet, rowStart};
 
 // The last 6 bytes of a sheet.
@@ -77,7 +77,13 @@ pub fn stray_bit(n: u8, role: u8, mask: u16) -> bool
     ensures { λ r. ⌜ r ≡ strayBit n role mask ⌝ }
 {
     let limit: u16 = 1 << n;
-    limit <= mask % 128 || limit <= mask / 128 % 128 || (role as u16) < mask / 16384
+    if limit <= mask % 128 {
+        return true;
+    }
+    if limit <= mask / 128 % 128 {
+        return true;
+    }
+    (role as u16) < mask / 16384
 }
 
 // The trailer of bytes long enough to have one.
@@ -99,7 +105,19 @@ pub fn read_trailer(b: &[u8]) -> Trailer
 pub fn good_trailer(t: Trailer) -> bool
     ensures { λ r. ⌜ r ≡ goodTrailer (trailerOf t) ⌝ }
 {
-    1 <= t.count && t.count <= 64 && t.n <= 7 && t.role <= 1 && t.closing == 0xC5
+    if t.count < 1 {
+        return false;
+    }
+    if 64 < t.count {
+        return false;
+    }
+    if 7 < t.n {
+        return false;
+    }
+    if 1 < t.role {
+        return false;
+    }
+    t.closing == 0xC5
 }
 
 // The `count` masks of state q from an offset on: strictly ascending, none with a stray bit.
@@ -154,7 +172,10 @@ pub fn check_row(b: &[u8], t: Trailer, q: u8, at: usize) -> Row
         return Row::Fault(4, q, t.index);
     }
     let count = b[at] as usize;
-    if count < 1 || 8 < count {
+    if count < 1 {
+        return Row::Fault(5, q, at as u16);
+    }
+    if 8 < count {
         return Row::Fault(5, q, at as u16);
     }
     let behind = at + 1 + 2 * count;
