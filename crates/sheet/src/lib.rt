@@ -12,7 +12,7 @@ ghost use Rattle.sheet.specs.Answers.{trailerOf, checkedOf, unionIn, beh
 ghost use Rattle.sheet.specs.Whole.{IsSheet, rowStart};
 
 // The last 6 bytes of a sheet.
-pub struct Trailer {
+struct Trailer {
     pub index: u16,
     pub count: u8,
     pub n: u8,
@@ -28,13 +28,13 @@ pub enum Checked {
 }
 
 // The masks of a row: their union, or the first fault.
-pub enum Masks {
+enum Masks {
     Union(u16),
     Fault(u8, u8, u16),
 }
 
 // A row: where the next one begins, or its first fault.
-pub enum Row {
+enum Row {
     Behind(usize),
     Fault(u8, u8, u16),
 }
@@ -72,7 +72,7 @@ pub fn ones_below(mask: u16, j: u8) -> usize
 }
 
 // Whether a mask has a bit that a sheet over n names in this role may not have.
-pub fn stray_bit(n: u8, role: u8, mask: u16) -> bool
+fn stray_bit(n: u8, role: u8, mask: u16) -> bool
     requires { ⌜ (n ≤ 7) × (role ≤ 1) ⌝ }
     ensures { λ r. ⌜ r ≡ strayBit n role mask ⌝ }
 {
@@ -87,7 +87,7 @@ pub fn stray_bit(n: u8, role: u8, mask: u16) -> bool
 }
 
 // The trailer of bytes long enough to have one.
-pub fn read_trailer(b: &[u8]) -> Trailer
+fn read_trailer(b: &[u8]) -> Trailer
     requires { ⌜ 6 ≤ length (now b) ⌝ }
     ensures { λ r. ⌜ trailerOf r ≡ trailer (now (b .entry)) ⌝ }
 {
@@ -102,7 +102,7 @@ pub fn read_trailer(b: &[u8]) -> Trailer
 }
 
 // Whether each number of a trailer is in its range.
-pub fn good_trailer(t: Trailer) -> bool
+fn good_trailer(t: Trailer) -> bool
     ensures { λ r. ⌜ r ≡ goodTrailer (trailerOf t) ⌝ }
 {
     if t.count < 1 {
@@ -121,7 +121,7 @@ pub fn good_trailer(t: Trailer) -> bool
 }
 
 // The `count` masks of state q from an offset on: strictly ascending, none with a stray bit.
-pub fn check_masks(b: &[u8], t: Trailer, q: u8, count: usize, at: usize) -> Masks
+fn check_masks(b: &[u8], t: Trailer, q: u8, count: usize, at: usize) -> Masks
     requires { ⌜ (t .n ≤ 7) × (t .role ≤ 1) × (at + 2 * count ≤ length (now b)) × (length (now b) ≤ 2118) ⌝ }
     ensures { λ r. ⌜ r ≡ unionIn 0 (masksFrom (now (b .entry)) (trailerOf t) q count 0 at) ⌝ }
 {
@@ -146,7 +146,7 @@ pub fn check_masks(b: &[u8], t: Trailer, q: u8, count: usize, at: usize) -> Mask
 }
 
 // The `count` successors of state q from an offset on: each a state of the sheet.
-pub fn check_successors(b: &[u8], t: Trailer, q: u8, count: usize, at: usize) -> Checked
+fn check_successors(b: &[u8], t: Trailer, q: u8, count: usize, at: usize) -> Checked
     requires { ⌜ (at + count ≤ length (now b)) × (length (now b) ≤ 2118) ⌝ }
     ensures { λ r. ⌜ r ≡ checkedOf (successorsFrom (now (b .entry)) (trailerOf t) q count at) ⌝ }
 {
@@ -163,7 +163,7 @@ pub fn check_successors(b: &[u8], t: Trailer, q: u8, count: usize, at: usize) ->
 }
 
 // The row of state q at an offset.
-pub fn check_row(b: &[u8], t: Trailer, q: u8, at: usize) -> Row
+fn check_row(b: &[u8], t: Trailer, q: u8, at: usize) -> Row
     requires { ⌜ (t .n ≤ 7) × (t .role ≤ 1) × (t .index ≤ length (now b)) × (length (now b) ≤ 2118) ⌝ }
     ensures { λ r. ⌜ r ≡ behindIn (rowAt (now (b .entry)) (trailerOf t) q at) ⌝ }
 {
@@ -189,7 +189,7 @@ pub fn check_row(b: &[u8], t: Trailer, q: u8, at: usize) -> Row
 }
 
 // What follows the masks of state q, whose union is given: a successor for each offered action.
-pub fn check_behind(b: &[u8], t: Trailer, q: u8, at: usize, union: u16) -> Row
+fn check_behind(b: &[u8], t: Trailer, q: u8, at: usize, union: u16) -> Row
     requires { ⌜ (at ≤ t .index) × (t .index ≤ length (now b)) × (length (now b) ≤ 2118) ⌝ }
     ensures { λ r. ⌜ r ≡ behindIn (rowWith (now (b .entry)) (trailerOf t) q at (union ∷ [])) ⌝ }
 {
@@ -205,7 +205,7 @@ pub fn check_behind(b: &[u8], t: Trailer, q: u8, at: usize, union: u16) -> Row
 }
 
 // All states: each row where the index says, directly behind the one before, the last up to the index.
-pub fn check_states(b: &[u8], t: Trailer) -> Checked
+fn check_states(b: &[u8], t: Trailer) -> Checked
     requires { ⌜ (goodTrailer (trailerOf t) ≡ true) × (t .index + 2 * t .count + 6 ≡ length (now b)) × (length (now b) ≤ 2118) ⌝ }
     ensures { λ r. ⌜ r ≡ checkedOf (statesFrom (now (b .entry)) (trailerOf t) (t .count) 0 0) ⌝ }
 {
