@@ -90,7 +90,7 @@ def limits(chance):
         situations, length = answer.situations, answer.plan_length
         for records in (situations, situations - 1, 1, 0):
             yield record(f"{records} records for {situations}", first, second, k, records)
-        for room in {length, max(length - 1, 0), 0}:
+        for room in sorted({length, max(length - 1, 0), 0}):
             yield record(f"{room} bytes for {length}", first, second, k, situations, room)
 
 

@@ -31,7 +31,7 @@ def random_ready(chance, shape, role):
         return {SUCCESS if role == CLIENT and not chance.one_in(4) else 0}
     ready = {random_mask(chance, shape.n, shape.actions) for _ in range(chance.between(1, shape.ready))}
     if role == CLIENT:
-        ready = {mask | SUCCESS if chance.one_in(6) else mask for mask in ready}
+        ready = {mask | SUCCESS if chance.one_in(6) else mask for mask in sorted(ready)}
     return ready
 
 
