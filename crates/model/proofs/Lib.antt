@@ -1,3 +1,5 @@
 pub mod Bits
 pub mod Cases
+pub mod Codes
+pub mod Masks
 pub mod Moves
