@@ -1,0 +1,6 @@
+pub mod Options
+pub mod Codes
+pub mod Rows
+pub mod Places
+pub mod Trailer
+pub mod Stands
