@@ -1,5 +1,6 @@
 // Plans as bytes. Document 01, "Which pairs connect" and "The client check and the run".
 pub mod read;
+pub mod write;
 
 ghost use mathlib.Core.Path.{_≡_};
 ghost use Prim.Native.Nat.{_+_, _*_, _≤_};
