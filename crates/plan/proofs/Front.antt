@@ -2,20 +2,16 @@
 -- Assumes nothing.
 use mathlib.Core.Path.{_≡_, refl, sym, ap, ap₂, _∙_}
 use mathlib.Core.List.{List, [], _∷_, _++_, append-assoc, append-nil}
-use Prim.Native.Nat.{ℕ, zero, suc, _+_, _-_, _*_, _/_, _%_, _<_, _≤_}
+use Prim.Native.Nat.{ℕ, _+_, _-_, _≤_}
 use native.Mathlib.Omega.{arith}
 use lib.ListN.{length, set, take, drop, length-append, length-drop, drop-of-length-le}
-use lib.Seq.{take-at, drop-at, drop-drop, length-take-le, take-all}
+use lib.Seq.{take-at, drop-at, drop-drop, take-all}
 use borrow.Rule.Slice.PartMut.{putMid, midOf}
 use Rattle.plan.specs.Front.{front}
 
 pub length-front : (w xs : List ℕ) → length w ≤ length xs → length (front w xs) ≡ length xs
 unfolding front
 length-front w xs h = simp (length-append, length-drop) (omega arith)
-
-pub front-none : (xs : List ℕ) → front [] xs ≡ xs
-unfolding front
-front-none xs = refl
 
 -- the rest of xs from `at` was lent, and came back with w at its front
 module _ (at : ℕ) (xs w zs : List ℕ) (fits : at + length w ≤ length xs) (e : zs ≡ front w (midOf at (length xs - at) xs)) where

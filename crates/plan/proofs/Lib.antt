@@ -1,4 +1,4 @@
-pub mod Options
+pub mod Answers
 pub mod Codes
 pub mod Rows
 pub mod Places

@@ -1,19 +1,18 @@
 -- The rows of a plan, place by place: what each test of `readRows` decides, and where row p stands in bytes that pass.
 -- Assumes nothing.
-use mathlib.Core.Path.{_≡_, refl, sym, ap, subst, _∙_}
+use mathlib.Core.Path.{_≡_, refl, sym, ap, _∙_}
 use mathlib.Core.Bool.{Bool, true, false, cond, _&&_, and-true}
-use mathlib.Core.List.{List, [], _∷_}
-use mathlib.Core.Option.{Option, none, some, Option·map}
-use Prim.Native.Nat.{ℕ, zero, suc, _+_, _-_, _*_, _<_, _≤_}
+use mathlib.Core.List.{List, []}
+use mathlib.Core.Option.{some}
+use Prim.Native.Nat.{ℕ, suc, _+_, _-_, _*_, _<_, _≤_}
 use native.Mathlib.Omega.{arith}
 use native.Mathlib.Numerals.{add-one}
-use lib.ListN.{length, getD}
-use lib.Dec.{T, eqb, leb, eqb→eq, leb→le}
+use lib.Dec.{eqb, leb}
 use borrow.Author.Tests.{le-leb, lt-leb, eq-eqb, ne-eqb, eqb-true, leb-true}
-use Rattle.model.specs.Bytes.{byte, word, dword}
-use Rattle.model.specs.Plan.{Move, goodRow, readMoves, readRows}
+use Rattle.model.specs.Bytes.{byte, dword}
+use Rattle.model.specs.Plan.{goodRow, readMoves, readRows}
 use Rattle.plan.specs.Layout.{isSome, goodPlace}
-use Rattle.plan.proofs.Options.{is-some-cond, is-some-map}
+use Rattle.plan.proofs.Answers.{is-some-cond, is-some-map}
 
 module _ (b : List ℕ) (index count n : ℕ) where
   module _ (p i : ℕ) where

@@ -12,7 +12,7 @@ use lib.Dec.{ltb, leb, leb·zero}
 use borrow.Author.Tests.{le-leb, lt-leb, eq-eqb, ne-eqb}
 use Rattle.model.specs.Lists.{all}
 use Rattle.model.specs.Bytes.{byte, word}
-use Rattle.model.specs.Plan.{Move, held, ascending, goodRow, readMoves, stepRow}
+use Rattle.model.specs.Plan.{Move, held, ascending, goodRow, readMoves}
 use Rattle.plan.specs.Layout.{moveAt, goodMove}
 
 pub length-read : (b : List ℕ) (i left : ℕ) → length (readMoves b i left) ≡ left

@@ -1,22 +1,22 @@
 -- In bytes that are a plan, row p stands at the place that the index says, and a step looks its code up there.
 -- Assumes nothing.
 use mathlib.Core.Path.{_≡_, refl, sym, ap, subst, _∙_}
-use mathlib.Core.Bool.{Bool, true, false, cond, _&&_}
+use mathlib.Core.Bool.{Bool, true, false}
 use mathlib.Core.List.{List, [], _∷_}
-use mathlib.Core.Option.{Option, none, some, Option·map}
+use mathlib.Core.Option.{some}
 use Prim.Native.Nat.{ℕ, zero, suc, _+_, _-_, _*_, _<_, _≤_}
 use native.Mathlib.Omega.{arith}
 use native.Mathlib.Nat.{zero-add}
 use lib.ListN.{length, getD}
-use lib.Dec.{T, eqb, leb, eqb→eq, leb→le}
+use lib.Dec.{T, eqb}
 use borrow.Author.Tests.{lt-ltb, le-ltb}
 use Rattle.model.specs.Bytes.{byte, word, dword}
-use Rattle.model.specs.Plan.{Move, Plan, held, goodRow, readMoves, readRows, readWith, readPlan, Stepped, stepRow, stepIn, stepOf}
-use Rattle.model.proofs.Lists.{and-both, cond-some}
+use Rattle.model.specs.Plan.{Move, Plan, held, readMoves, readRows, readWith, readPlan, stepRow, stepIn, stepOf}
+use Rattle.model.proofs.Lists.{cond-some}
 use Rattle.plan.specs.Layout.{isSome, goodPlace}
-use Rattle.plan.proofs.Options.{is-some-elim, is-some-not, map-elim}
+use Rattle.plan.proofs.Answers.{is-some-elim, is-some-not, map-elim}
 use Rattle.plan.proofs.Places.{place-within}
-use Rattle.plan.proofs.Trailer.{with-room}
+use Rattle.plan.proofs.Trailer.{test, with-room}
 
 is-true : (t : Bool) → T t → t ≡ true
 is-true true h = refl
@@ -88,7 +88,7 @@ pub record Stands (b : List ℕ) : Type 0 where
 with-rows : (b : List ℕ) (index count n k : ℕ) {p : Plan} → readWith b index count n k ≡ some p → Rows b index count n count 0 (p .rows)
 unfolding readWith
 with-rows b index count n k e =
-    let w = cond-some (leb 8 (length b) && (leb 1 count && (leb count 4096 && (leb n 7 && (leb k 3 && eqb (index + 4 * count + 8) (length b)))))) _ _ e in
+    let w = cond-some (test b index count n k) _ _ e in
     let m = map-elim _ (readRows b index count n count 0 0) (w .1) in
     subst (λ (p : Plan). Rows b index count n count 0 (p .rows)) (m .2) (rows-read b index count n count 0 0 (m .1))
 

@@ -2,12 +2,12 @@
 -- Assumes nothing.
 use mathlib.Core.Path.{_≡_, refl, sym, ap, ap₂, _∙_}
 use mathlib.Core.List.{List, [], _∷_, _++_, append-assoc}
-use Prim.Native.Nat.{ℕ, zero, suc, _+_, _*_, _/_, _%_, _≤_}
+use Prim.Native.Nat.{ℕ, zero, suc, _+_, _*_, _/_, _%_}
 use native.Mathlib.Omega.{arith}
 use native.Mathlib.Nat.{mod-mod}
 use lib.Arith.{mod-mul}
 use lib.ListN.{length, getD}
-use Rattle.model.specs.Bytes.{le16, le32}
+use Rattle.model.specs.Bytes.{le16}
 use Rattle.model.specs.Plan.{Move, moveBytes, rowBytes}
 use Rattle.model.proofs.PlanBytes.{length-moves}
 use Rattle.plan.specs.Front.{front, movesFrom}

@@ -1,7 +1,7 @@
 -- What a writer leaves behind in the bytes that it is lent.
 -- Assumes nothing.
 use mathlib.Core.List.{List, [], _∷_, _++_}
-use Prim.Native.Nat.{ℕ, zero, suc, _+_}
+use Prim.Native.Nat.{ℕ, zero, suc}
 use lib.ListN.{length, getD, drop}
 use Rattle.model.specs.Plan.{Move}
 

@@ -1,5 +1,5 @@
 // Plans as bytes. Document 01, "Which pairs connect" and "The client check and the run".
-pub mod read;
+mod read;
 pub mod write;
 
 ghost use mathlib.Core.Path.{_≡_};
@@ -16,7 +16,7 @@ pub struct Stepped {
 }
 
 // The step by a code in a row whose moves, size of them, stand from first on.
-pub fn step_row(plan: &[u8], first: usize, size: usize, code: u8) -> Stepped
+fn step_row(plan: &[u8], first: usize, size: usize, code: u8) -> Stepped
     requires { ⌜ first + 3 * size ≤ length (now plan) ⌝ }
     ensures { λ r. ⌜ r ≡ steppedOf (stepRow (held (readMoves (now (plan .entry)) first size) code)) ⌝ }
 {

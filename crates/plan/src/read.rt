@@ -1,14 +1,13 @@
 // The plan layout, tested on any bytes.
 ghost use mathlib.Core.Path.{_≡_};
-ghost use mathlib.Core.Bool.{_&&_};
 ghost use Prim.Native.Nat.{_+_, _*_, _≤_};
-ghost use lib.Dec.{ltb, leb};
+ghost use lib.Dec.{ltb};
 ghost use lib.ListN.{length};
 ghost use Rattle.model.specs.Bytes.{word, dword};
 ghost use Rattle.model.specs.Contract.{name};
 ghost use Rattle.model.specs.Situation.{kindOf};
 ghost use Rattle.model.specs.Plan.{namedBelow, goodRow, readMoves, readRows, readPlan};
-ghost use Rattle.plan.specs.Layout.{isSome, moveAt, goodMove, goodPlace};
+ghost use Rattle.plan.specs.Layout.{isSome, moveAt, goodMove, goodPlace, goodTrailer};
 
 // The 16-bit number at a place.
 pub fn word_at(plan: &[u8], i: usize) -> u16
@@ -121,7 +120,7 @@ pub fn good_rows(plan: &[u8], index: usize, count: u16, n: u8) -> bool
 
 // Whether a plan can have count states, n names and the rank k.
 pub fn good_trailer(count: u16, n: u8, k: u8) -> bool
-    ensures { λ r. ⌜ r ≡ (leb 1 count && (leb count 4096 && (leb n 7 && leb k 3))) ⌝ }
+    ensures { λ r. ⌜ r ≡ goodTrailer count n k ⌝ }
 {
     if count < 1 {
         return false;

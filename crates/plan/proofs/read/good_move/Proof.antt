@@ -1,6 +1,6 @@
 -- `plan::read::good_move` meets its contract: its two tests, one after the other.
 -- Assumes nothing.
-use mathlib.Core.Path.{_≡_, refl, sym, ap}
+use mathlib.Core.Path.{sym, ap}
 use Prim.Native.Nat.{ℕ}
 use lib.Dec.{ltb}
 use Rattle.model.specs.Bytes.{byte}

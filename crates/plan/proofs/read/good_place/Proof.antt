@@ -1,6 +1,6 @@
 -- `plan::read::good_place` meets its contract: a law for each test that fails, and one for the row.
 -- Assumes nothing.
-use mathlib.Core.Path.{_≡_, sym, _∙_}
+use mathlib.Core.Path.{sym, _∙_}
 use native.Mathlib.Omega.{arith}
 use Rattle.model.specs.Bytes.{byte}
 use Rattle.plan.proofs.Places.{place-elsewhere, place-past, place-row}

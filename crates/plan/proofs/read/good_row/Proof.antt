@@ -3,9 +3,9 @@
 use mathlib.Core.Path.{_≡_, refl, sym, _∙_}
 use Prim.Native.Nat.{_+_, _*_}
 use native.Mathlib.Omega.{arith}
-use borrow.Author.Tests.{not-true, not-false}
 use Rattle.model.specs.Bytes.{byte}
 use Rattle.model.specs.Plan.{goodRow, readMoves}
+use Rattle.plan.proofs.Answers.{passed, failed}
 use Rattle.plan.proofs.Rows.{goodFrom, good-long, good-short, good-none, good-low, good-bad, good-more}
 use Rattle.plan.proofs.read.good_row.Statement.{statement}
 use Rattle.plan.proofs.read.good_row.Tie as tie
@@ -37,7 +37,7 @@ good-move-requires c κs = omega arith
 
 returns-3 : tie.Need-returns-3 Inv-loop μ-loop
 unfolding byte
-returns-3 c = let l = c .before .before .before .before .before .loop in sym (l .inv .0 ∙ good-bad _ _ _ (l .at) (l .low) (l .left) (omega arith) (c .before .before .if2 .left) (sym (c .before .good-move .ensures) ∙ not-true _ (c .if3 .taken)))
+returns-3 c = let l = c .before .before .before .before .before .loop in sym (l .inv .0 ∙ good-bad _ _ _ (l .at) (l .low) (l .left) (omega arith) (c .before .before .if2 .left) (failed (c .before .good-move .ensures) (c .if3 .taken)))
 
 add-low : tie.Need-add-low Inv-loop μ-loop
 add-low c = omega (arith, c .before .before .before .shared-slice-known2 .given (c .before .before .before .before .before .loop .at))
@@ -53,7 +53,7 @@ loop-less c = omega arith
 
 loop-again : tie.Need-loop-again Inv-loop μ-loop
 unfolding byte
-loop-again c = let l = c .before .before .before .before .before .loop in (l .inv .0 ∙ good-more _ _ _ (l .at) (l .low) (l .left) (omega arith) (c .before .before .if2 .left) (sym (c .before .good-move .ensures) ∙ not-false _ (c .if3 .left)), omega arith)
+loop-again c = let l = c .before .before .before .before .before .loop in (l .inv .0 ∙ good-more _ _ _ (l .at) (l .low) (l .left) (omega arith) (c .before .before .if2 .left) (passed (c .before .good-move .ensures) (c .if3 .left)), omega arith)
 
 returns-4 : tie.Need-returns-4 Inv-loop μ-loop
 returns-4 c = let l = c .before .loop in sym (l .inv .0 ∙ good-none _ _ _ (l .at) (l .low) (l .left) (omega arith))

@@ -1,6 +1,6 @@
 -- `plan::read::is_plan` meets its contract: a law for each test that fails, and one for the rows.
 -- Assumes nothing.
-use mathlib.Core.Path.{_≡_, refl, sym, ap, _∙_}
+use mathlib.Core.Path.{refl, sym, ap, _∙_}
 use Rattle.model.specs.Bytes.{byte}
 use Rattle.plan.specs.Layout.{isSome}
 use Rattle.plan.proofs.Trailer.{plan-short, plan-with, with-trailer, with-index, with-rows}

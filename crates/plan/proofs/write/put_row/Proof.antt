@@ -1,7 +1,7 @@
 -- `plan::write::put_row` meets its contract. The loop's invariant: the count and the first i moves stand at the front.
 -- The measure is the number of moves left. Assumes nothing.
 use mathlib.Core.Path.{_≡_, refl, sym, ap, _∙_}
-use mathlib.Core.List.{List, [], _∷_, _++_}
+use mathlib.Core.List.{List, [], _∷_}
 use Prim.Native.Nat.{ℕ, _+_, _*_, _-_, _≤_}
 use native.Mathlib.Omega.{arith}
 use lib.ListN.{length}
@@ -65,11 +65,13 @@ unfolding moveBytes le16
 loop-again c =
     let l = c .before .before .before .before .before .before .before .loop in
     let v = l .inv in
-    let size = c .before .before .before .before .before .before .before .before .before .before .before .before .before .before .before .args .size in
-    let codes = c .before .before .before .before .before .before .before .before .before .before .before .before .before .before .before .args .codes .now in
-    let nexts = c .before .before .before .before .before .before .before .before .before .before .before .before .before .before .before .args .nexts .now in
-    let more = front-then (l .at) _ (l .out) _ _ _ (v .0) (omega (arith, length-row codes nexts (l .i) size)) (omega arith) (c .before .before .put-move .ensures) ∙ ap (λ (w : List ℕ). front w (c .before .before .before .before .before .before .before .before .before .before .put-byte .last .0)) (row-more codes nexts (l .i) size) in
-    (more, (omega arith, (ap length more ∙ length-front _ _ (omega (arith, length-row codes nexts (l .i + 1) size)), (omega arith, v .1 .1 .1 .1))))
+    let d = c .before .before .before .before .before .before .before .before .before .before in
+    let args = d .before .before .before .before .before .args in
+    let long = length-row (args .codes .now) (args .nexts .now) in
+    let more =
+    front-then (l .at) _ (l .out) _ _ _ (v .0) (omega (arith, long (l .i) (args .size))) (omega arith) (c .before .before .put-move .ensures)
+    ∙ ap (λ (w : List ℕ). front w (d .put-byte .last .0)) (row-more (args .codes .now) (args .nexts .now) (l .i) (args .size)) in
+    (more, (omega arith, (ap length more ∙ length-front _ _ (omega (arith, long (l .i + 1) (args .size))), (omega arith, v .1 .1 .1 .1))))
 
 same-length : tie.Need-same-length Inv-loop μ-loop
 same-length c = let e = c .before .before .before .before .put-byte .ensures in c .before .loop .inv .1 .1 .0 ∙ ap length e ∙ length-front _ _ (omega arith)

@@ -1,10 +1,8 @@
 -- `plan::write::put_trailer` meets its contract: four numbers, each directly behind the one before.
 -- Assumes nothing.
-use mathlib.Core.Path.{refl, sym, _∙_}
-use mathlib.Core.List.{[], _∷_, _++_}
+use mathlib.Core.Path.{refl}
 use native.Mathlib.Omega.{arith}
 use Rattle.model.specs.Bytes.{le16, le32}
-use Rattle.model.proofs.PlanBytes.{length-16, length-32}
 use Rattle.plan.proofs.Front.{front-then}
 use borrow.Author.Needs.{needs}
 use Rattle.plan.proofs.write.put_trailer.Statement.{statement}
@@ -55,12 +53,10 @@ same-length c = search needs
 returns : tie.Need-returns
 unfolding le32 le16
 returns c =
-    let index = c .before .before .before .before .before .before .before .before .before .before .before .before .before .before .before .before .before .args .index in
-    let count = c .before .before .before .before .before .before .before .before .before .before .before .before .before .before .before .before .before .args .count in
-    let one = c .before .before .before .before .before .before .before .before .before .before .before .before .before .before .put-dword .ensures in
-    let two = front-then 4 _ _ _ _ _ one refl (omega arith) (c .before .before .before .before .before .before .before .before .before .before .put-word .ensures) in
-    let three = front-then 6 _ _ _ _ _ two refl (omega arith) (c .before .before .before .before .before .before .put-byte .ensures) in
-    front-then 7 _ _ _ _ _ three refl (omega arith) (c .before .before .put-byte2 .ensures)
+    let first = c .before .before .before .before .before .before .before .before .before .before .before .before .before .before .put-dword .ensures in
+    let second = front-then 4 _ _ _ _ _ first refl (omega arith) (c .before .before .before .before .before .before .before .before .before .before .put-word .ensures) in
+    let third = front-then 6 _ _ _ _ _ second refl (omega arith) (c .before .before .before .before .before .before .put-byte .ensures) in
+    front-then 7 _ _ _ _ _ third refl (omega arith) (c .before .before .put-byte2 .ensures)
 
 pub put-trailer-spec : {M : Type 1} → statement M
 put-trailer-spec =

@@ -1,11 +1,19 @@
--- Results that may be missing: whether there is one, and what follows if there is.
+-- Answers of yes and no, and results that may be missing: whether there is one, and what follows if there is.
 -- Assumes nothing.
-use mathlib.Core.Path.{_≡_, refl}
-use mathlib.Core.Bool.{Bool, true, false, cond, _&&_}
+use mathlib.Core.Path.{_≡_, refl, sym, _∙_}
+use mathlib.Core.Bool.{Bool, true, false, not, cond, _&&_}
 use mathlib.Core.Option.{Option, none, some, Option·map}
 use Prim.Native.Nat.{ℕ}
 use native.Mathlib.Omega.{arith}
+use borrow.Author.Tests.{not-true, not-false}
 use Rattle.plan.specs.Layout.{isSome}
+
+-- a test that was made through `not`
+pub passed : {r g : Bool} → r ≡ g → not r ≡ false → g ≡ true
+passed e h = sym e ∙ not-false _ h
+
+pub failed : {r g : Bool} → r ≡ g → not r ≡ true → g ≡ false
+failed e h = sym e ∙ not-true _ h
 
 pub is-some-cond : {A : Type 0} (t : Bool) (o : Option A) → isSome (cond t o none) ≡ (t && isSome o)
 unfolding isSome
