@@ -1,17 +1,17 @@
 -- In bytes that are a plan, row p stands at the place that the index says, and a step looks its code up there.
 -- Assumes nothing.
 use mathlib.Core.Path.{_≡_, refl, sym, ap, subst, _∙_}
-use mathlib.Core.Bool.{Bool, true, false}
+use mathlib.Core.Bool.{Bool, true, false, cond}
 use mathlib.Core.List.{List, [], _∷_}
 use mathlib.Core.Option.{some}
 use Prim.Native.Nat.{ℕ, zero, suc, _+_, _-_, _*_, _<_, _≤_}
 use native.Mathlib.Omega.{arith}
 use native.Mathlib.Nat.{zero-add}
 use lib.ListN.{length, getD}
-use lib.Dec.{T, eqb}
+use lib.Dec.{T, eqb, ltb}
 use borrow.Author.Tests.{lt-ltb, le-ltb}
 use Rattle.model.specs.Bytes.{byte, word, dword}
-use Rattle.model.specs.Plan.{Move, Plan, held, readMoves, readRows, readWith, readPlan, stepRow, stepIn, stepOf}
+use Rattle.model.specs.Plan.{Move, Plan, held, readMoves, readRows, readWith, readPlan, rowsOf, rowsIn, stepRow, stepIn, stepOf}
 use Rattle.model.proofs.Lists.{cond-some}
 use Rattle.plan.specs.Layout.{isSome, goodPlace}
 use Rattle.plan.proofs.Answers.{is-some-elim, is-some-not, map-elim}
@@ -76,63 +76,66 @@ module _ (b : List ℕ) where
   abbrev rowPlace : ℕ → ℕ
   rowPlace p = dword b (indexOf + 4 * p)
 
--- what holds of bytes that are a plan
+-- what holds of bytes that are a plan: rows, index and trailer fill them, and row p stands at the place that the index says
 pub record Stands (b : List ℕ) : Type 0 where
   pub room : indexOf b + 4 * countOf b + 8 ≡ length b
+  pub size : length (rowsIn b) ≡ countOf b
   pub within : (p : ℕ) → p < countOf b → rowPlace b p + 1 + 3 * byte b (rowPlace b p) ≤ indexOf b
-  -- the step from a state of the plan, and from a number that is none
-  pub from : (p code : ℕ) → p < countOf b → stepOf b p code ≡ stepRow (held (readMoves b (rowPlace b p + 1) (byte b (rowPlace b p))) code)
-  pub beyond : (p code : ℕ) → countOf b ≤ p → stepOf b p code ≡ record { number = 15; state = 0 }
+  pub row : (p : ℕ) → p < countOf b → getD (rowsIn b) p [] ≡ readMoves b (rowPlace b p + 1) (byte b (rowPlace b p))
 
--- rows that were read from a trailer's numbers
-with-rows : (b : List ℕ) (index count n k : ℕ) {p : Plan} → readWith b index count n k ≡ some p → Rows b index count n count 0 (p .rows)
+-- rows that were read with the numbers of a trailer
+rows-with : (b : List ℕ) (index count n k : ℕ) {p : Plan} → readWith b index count n k ≡ some p → Rows b index count n count 0 (p .rows)
 unfolding readWith
-with-rows b index count n k e =
+rows-with b index count n k e =
     let w = cond-some (test b index count n k) _ _ e in
     let m = map-elim _ (readRows b index count n count 0 0) (w .1) in
     subst (λ (p : Plan). Rows b index count n count 0 (p .rows)) (m .2) (rows-read b index count n count 0 0 (m .1))
 
-module _ (p : Plan) (b : List ℕ) (n : ℕ) (rows : Rows b (indexOf b) (countOf b) n (countOf b) 0 (p .rows)) where
-  step-from : (q code : ℕ) → q < countOf b → stepIn (some p) q code ≡ stepRow (held (readMoves b (rowPlace b q + 1) (byte b (rowPlace b q))) code)
-  unfolding stepIn
-  step-from q code h = rw (rows .size, lt-ltb _ _ h, rows .row q h, zero-add q)
-
-  step-beyond : (q code : ℕ) → countOf b ≤ q → stepIn (some p) q code ≡ record { number = 15; state = 0 }
-  unfolding stepIn
-  step-beyond q code h = rw (rows .size, le-ltb _ _ h)
-
 pub stands : (b : List ℕ) → isSome (readPlan b) ≡ true → Stands b
-unfolding readPlan stepOf
+unfolding readPlan rowsIn rowsOf
 stands b e =
     let r = is-some-elim (readPlan b) e in
-    let n = byte b (length b - 2) in
-    let rows = with-rows b (indexOf b) (countOf b) n _ (r .1) in
+    let rows = rows-with b (indexOf b) (countOf b) (byte b (length b - 2)) _ (r .1) in
     record {
       room = with-room b _ _ _ _ e;
-      within = λ q h. rw zero-add at (rows .within q h);
-      from = λ q code h. rw (r .1) (step-from (r .0) b n rows q code h);
-      beyond = λ q code h. rw (r .1) (step-beyond (r .0) b n rows q code h);
+      size = rw (r .1) (rows .size);
+      within = λ p h. rw zero-add at (rows .within p h);
+      row = λ p h. rw (r .1) (rw zero-add at (rows .row p h));
     }
 
-pub refused : (b : List ℕ) (p code : ℕ) → isSome (readPlan b) ≡ false → stepOf b p code ≡ record { number = 14; state = 0 }
-unfolding stepOf stepIn
-refused b p code e = rw (is-some-not (readPlan b) e)
+-- ---- stepping
 
--- the same at numbers that were read from the bytes
-module _ (b : List ℕ) (s : Stands b) (count p : ℕ) (c : count ≡ word b (length b - 4)) where
-  pub state-beyond : (code : ℕ) → count ≤ p → stepOf b p code ≡ record { number = 15; state = 0 }
-  state-beyond code h = s .beyond p code (omega arith)
+-- the step in bytes that are a plan, and in others
+step-rows : (b : List ℕ) (p code : ℕ) → isSome (readPlan b) ≡ true
+    → stepOf b p code ≡ cond (ltb p (length (rowsIn b))) (stepRow (held (getD (rowsIn b) p []) code)) (record { number = 15; state = 0 })
+unfolding stepOf stepIn rowsIn rowsOf
+step-rows b p code e = rw (is-some-elim (readPlan b) e .1)
+
+pub step-no-plan : (b : List ℕ) (p code : ℕ) → isSome (readPlan b) ≡ false → record { number = 14; state = 0 } ≡ stepOf b p code
+unfolding stepOf stepIn
+step-no-plan b p code e = rw (is-some-not (readPlan b) e)
+
+-- by numbers that were read from the bytes
+module _ (b : List ℕ) (plan : isSome (readPlan b) ≡ true) (count p : ℕ) (c : count ≡ word b (length b - 4)) where
+  s : Stands b
+  s = stands b plan
+
+  pub step-no-state : (code : ℕ) → count ≤ p → record { number = 15; state = 0 } ≡ stepOf b p code
+  step-no-state code h = sym (step-rows b p code plan ∙ rw (s .size, le-ltb p (countOf b) (omega arith)))
 
   module _ (h : p < count) (index : ℕ) (i : index ≡ dword b (length b - 8)) where
     pub entry-fits : index + 4 * p + 4 ≤ length b
     entry-fits = omega (arith, s .room)
 
     module _ (row : ℕ) (r : row ≡ dword b (index + 4 * p)) where
+      state : p < countOf b
+      state = omega arith
+
       row-is : row ≡ rowPlace b p
       row-is = r ∙ ap (λ (x : ℕ). dword b (x + 4 * p)) i
 
       pub row-fits : row + 1 + 3 * byte b row ≤ length b
-      row-fits = let w = s .within p (omega arith) in rw row-is (omega (arith, w, s .room))
+      row-fits = rw row-is (omega (arith, s .within p state, s .room))
 
-      pub row-step : (code : ℕ) → stepRow (held (readMoves b (row + 1) (byte b row)) code) ≡ stepOf b p code
-      row-step code = rw row-is (sym (s .from p code (omega arith)))
+      pub step-state : (code : ℕ) → stepRow (held (readMoves b (row + 1) (byte b row)) code) ≡ stepOf b p code
+      step-state code = rw row-is (sym (step-rows b p code plan ∙ rw (s .size, lt-ltb p (countOf b) state, s .row p state)))

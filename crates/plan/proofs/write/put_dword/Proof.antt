@@ -1,11 +1,10 @@
 -- `plan::write::put_dword` meets its contract: the lower half, and the upper half behind it.
 -- Assumes nothing.
-use mathlib.Core.Path.{sym, ap, _∙_}
+use mathlib.Core.Path.{refl, ap, _∙_}
 use mathlib.Core.List.{List}
-use Prim.Native.Nat.{ℕ, _/_}
+use Prim.Native.Nat.{ℕ}
 use native.Mathlib.Omega.{arith}
-use Rattle.model.specs.Bytes.{le32}
-use Rattle.model.proofs.PlanBytes.{length-16}
+use Rattle.model.specs.Bytes.{le16, le32}
 use Rattle.plan.specs.Front.{front}
 use Rattle.plan.proofs.Front.{front-then}
 use Rattle.plan.proofs.Written.{low-half}
@@ -38,8 +37,11 @@ same-length : tie.Need-same-length
 same-length c = search needs
 
 returns : tie.Need-returns
-unfolding le32
-returns c = let first = c .before .before .before .before .before .before .put-word .ensures ∙ ap (λ (w : List ℕ). front w (c .before .before .before .before .before .before .before .before .before .args .out .now)) (low-half _) in front-then _ _ _ _ _ _ first (sym (length-16 _)) (omega (arith, length-16 (c .before .before .before .before .before .before .before .before .before .args .x / 65536))) (c .before .before .put-word2 .ensures)
+unfolding le32 le16
+returns c =
+    let first = c .before .before .before .before .before .before .put-word .ensures in
+    let xs = c .before .before .before .before .before .before .before .before .before .args .out .now in
+    front-then 2 xs _ _ _ _ (first ∙ ap (λ (w : List ℕ). front w xs) (low-half _)) refl (omega arith) (c .before .before .put-word2 .ensures)
 
 pub put-dword-spec : {M : Type 1} → statement M
 put-dword-spec =
