@@ -8,9 +8,7 @@ ghost use Rattle.model.specs.Sheet.{contractIn, plain};
 ghost use Rattle.model.specs.Situation.{alike};
 ghost use Rattle.model.specs.Connect.{refused, counted, connected};
 ghost use Rattle.sheet.specs.Whole.{IsSheet};
-ghost use Rattle.connect.specs.Answers.{answerOf, recordsOf, Writes, Connects, Kept};
-use pair::Pair;
-use reached::Reach;
+ghost use Rattle.connect.specs.Answers.{answerOf, recordsOf};
 
 // What connecting answers: number, sheet and state of a refusal; situations, plan states and rounds; the plan's length.
 #[repr(C)]
@@ -58,7 +56,10 @@ fn with_counts(number: u8, situations: u16, states: u16, rounds: u16, length: u3
 fn records(keys: usize, links: usize, marks: usize, order: usize, numbers: usize) -> usize
     ensures { λ r. ⌜ r ≡ recordsOf keys links marks order numbers ⌝ }
 {
-    smaller(keys, smaller(links / 42, smaller(marks, smaller(order, numbers))))
+    smaller(
+        keys,
+        smaller(links / 42, smaller(marks, smaller(order, numbers))),
+    )
 }
 
 fn smaller(a: usize, b: usize) -> usize
