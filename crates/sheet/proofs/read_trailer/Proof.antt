@@ -1,6 +1,5 @@
 -- `sheet::read_trailer` meets its contract: the fields are the numbers at the same places.
 -- Assumes nothing.
-use mathlib.Core.Path.{_≡_, refl, sym, ap, _∙_}
 use Rattle.model.specs.Bytes.{byte}
 use Rattle.model.specs.Sheet.{trailer}
 use borrow.Author.Needs.{needs}
