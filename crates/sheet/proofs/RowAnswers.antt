@@ -22,10 +22,10 @@ use Rattle.sheet.proofs.Answers.{checked-then, union-then}
 use Rattle.sheet.proofs.Rows.{row-reading}
 use Rattle.sheet.specs.declared.Checked.{Checked}
 use Rattle.sheet.specs.declared.Checked.the-variants as C
-use Rattle.sheet.specs.declared.Masks.{Masks}
-use Rattle.sheet.specs.declared.Masks.the-variants as M
-use Rattle.sheet.specs.declared.Row.{Row}
-use Rattle.sheet.specs.declared.Row.the-variants as R
+use Rattle.sheet.specs.declared.parts.Masks.{Masks}
+use Rattle.sheet.specs.declared.parts.Masks.the-variants as M
+use Rattle.sheet.specs.declared.parts.Row.{Row}
+use Rattle.sheet.specs.declared.parts.Row.the-variants as R
 
 -- a row whose successors end at i
 behindOf : ℕ → Checked → Row

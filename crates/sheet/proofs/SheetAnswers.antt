@@ -17,8 +17,8 @@ use Rattle.sheet.specs.Answers.{checkedOf, behindIn}
 use Rattle.sheet.proofs.Answers.{checked-then}
 use Rattle.sheet.specs.declared.Checked.{Checked}
 use Rattle.sheet.specs.declared.Checked.the-variants as C
-use Rattle.sheet.specs.declared.Row.{Row}
-use Rattle.sheet.specs.declared.Row.the-variants as R
+use Rattle.sheet.specs.declared.parts.Row.{Row}
+use Rattle.sheet.specs.declared.parts.Row.the-variants as R
 
 -- ---- states
 -- a row's answer, gone on with the states behind it

@@ -36,44 +36,31 @@ ones-below-requires c κs = omega arith
 
 add-result : tie.Need-add-result
 add-result c =
-    let o = c .ones-below .ensures ∙ ap (λ (u : ℕ). onesBelow u (c .before .before .before .before .before .args .j))
-    (c .before .offered .ensures) in
-    omega (
-      arith,
-      o,
-      place-within _ (c .before .before .before .before .before .pre .0) _
-          (c .before .before .before .before .before .pre .1) _ (c .before .before .before .before .before .pre .2)
-          (c .before .before .before .before .before .pre .3),
-      row-within _
-          (c .before .before .before .before .before .pre .0) _ (c .before .before .before .before .before .pre .1),
-    )
+    let start = c .before .before .before .before .before in
+    let whole = start .pre .0 in
+    let place = c .ones-below .ensures ∙ ap (λ (u : ℕ). onesBelow u (start .args .j)) (c .before .offered .ensures) in
+    let within = place-within _ whole _ (start .pre .1) _ (start .pre .2) (start .pre .3) in
+    omega (arith, row-within _ whole _ (start .pre .1))
 
 shared-slice-read-result : tie.Need-shared-slice-read-result
 shared-slice-read-result c =
-    let o = c .before .ones-below .ensures ∙ ap (λ (u : ℕ). onesBelow u
-    (c .before .before .before .before .before .before .args .j)) (c .before .before .offered .ensures) in
-    omega (
-      arith,
-      o,
-      place-within _ (c .before .before .before .before .before .before .pre .0) _
-          (c .before .before .before .before .before .before .pre .1) _
-          (c .before .before .before .before .before .before .pre .2)
-          (c .before .before .before .before .before .before .pre .3),
-      row-within _
-          (c .before .before .before .before .before .before .pre .0) _
-          (c .before .before .before .before .before .before .pre .1),
-    )
+    let counted = c .before in
+    let start = counted .before .before .before .before .before in
+    let whole = start .pre .0 in
+    let place =
+    counted .ones-below .ensures ∙ ap (λ (u : ℕ). onesBelow u (start .args .j)) (counted .before .offered .ensures) in
+    let within = place-within _ whole _ (start .pre .1) _ (start .pre .2) (start .pre .3) in
+    omega (arith, row-within _ whole _ (start .pre .1))
 
 returns : tie.Need-returns
 unfolding byte
 returns c =
-    successor-stands _ (c .before .before .before .before .before .before .pre .0) _
-    (c .before .before .before .before .before .before .pre .1) _
-    (c .before .before .before .before .before .before .pre .2)
-    (c .before .before .before .before .before .before .pre .3) _ _ _
-    (c .before .before .before .before .row-start .ensures) (c .before .before .before .ready-count .ensures)
-    (c .before .ones-below .ensures ∙ ap (λ (u : ℕ). onesBelow u
-    (c .before .before .before .before .before .before .args .j)) (c .before .before .offered .ensures))
+    let counted = c .before in
+    let ready = counted .before .before in
+    let start = ready .before .before .before in
+    successor-stands _ (start .pre .0) _ (start .pre .1) _ (start .pre .2) (start .pre .3) _ _ _
+    (ready .before .row-start .ensures) (ready .ready-count .ensures)
+    (counted .ones-below .ensures ∙ ap (λ (u : ℕ). onesBelow u (start .args .j)) (counted .before .offered .ensures))
 
 pub successor-spec : {M : Type 1} → statement M
 successor-spec =

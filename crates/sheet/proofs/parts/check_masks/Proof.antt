@@ -1,4 +1,4 @@
--- `sheet::check_masks` meets its contract. The invariant: the masks left, read on with the union so far, give the same
+-- `sheet::parts::check_masks` meets its contract. The invariant: the masks left, read on with the union so far, give the same
 -- answer. Each way out is one law of the reading. Assumes nothing.
 use mathlib.Core.Path.{_≡_, refl, sym, _∙_}
 use Prim.Native.Nat.{_+_, _*_}
@@ -6,8 +6,8 @@ use native.Mathlib.Omega.{arith}
 use Rattle.model.specs.Sheet.{masksFrom}
 use Rattle.sheet.specs.Answers.{trailerOf, unionIn}
 use Rattle.sheet.proofs.RowAnswers.{masks-none, masks-low, masks-stray, masks-more}
-use Rattle.sheet.proofs.check_masks.Statement.{statement}
-use Rattle.sheet.proofs.check_masks.Tie as tie
+use Rattle.sheet.proofs.parts.check_masks.Statement.{statement}
+use Rattle.sheet.proofs.parts.check_masks.Tie as tie
 
 abbrev Inv-loop : tie.InvT-loop
 Inv-loop b t q count at left₀ i₀ low₀ union₀ left i low union =
@@ -32,8 +32,8 @@ cast-t13 c = omega arith
 returns : tie.Need-returns Inv-loop μ-loop
 returns c =
     let l = c .before .before .before .loop in
-    sym (l .inv .0 ∙ masks-low _ _ _ (l .low) (l .i) (l .union) _ (c .before .word-at .ensures) (l .left)
-    (omega arith) (c .if1 .taken))
+    let low = masks-low _ _ _ (l .low) (l .i) (l .union) _ (c .before .word-at .ensures) (l .left) (omega arith) in
+    sym (l .inv .0 ∙ low (c .if1 .taken))
 
 stray-bit-requires : tie.Need-stray-bit-requires Inv-loop μ-loop
 stray-bit-requires c κs = omega arith
@@ -43,9 +43,12 @@ cast-t15 c = omega arith
 
 returns-2 : tie.Need-returns-2 Inv-loop μ-loop
 returns-2 c =
-    let l = c .before .before .before .before .before .loop in
-    sym (l .inv .0 ∙ masks-stray _ _ _ (l .low) (l .i) (l .union) _ (c .before .before .before .word-at .ensures)
-    (l .left) (omega arith) (c .before .before .if1 .left) (sym (c .before .stray-bit .ensures) ∙ c .if2 .taken))
+    let ascending = c .before .before in
+    let l = ascending .before .before .before .loop in
+    sym
+    (l .inv .0
+    ∙ masks-stray _ _ _ (l .low) (l .i) (l .union) _ (ascending .before .word-at .ensures) (l .left) (omega arith)
+    (ascending .if1 .left) (sym (c .before .stray-bit .ensures) ∙ c .if2 .taken))
 
 cast-low : tie.Need-cast-low Inv-loop μ-loop
 cast-low c = omega arith
@@ -64,11 +67,12 @@ loop-less c = omega arith
 
 loop-again : tie.Need-loop-again Inv-loop μ-loop
 loop-again c =
-    let l = c .before .before .before .before .before .loop in (
-      l .inv .0 ∙ masks-more _ _ _ (l .low) (l .i) (l .union) _ (c .before .before .before .word-at .ensures) (l .left)
-          (omega arith) (c .before .before .if1 .left) (sym (c .before .stray-bit .ensures) ∙ c .if2 .left),
-      omega arith,
-    )
+    let ascending = c .before .before in
+    let l = ascending .before .before .before .loop in
+    let more =
+    masks-more _ _ _ (l .low) (l .i) (l .union) _ (ascending .before .word-at .ensures) (l .left) (omega arith)
+    (ascending .if1 .left) (sym (c .before .stray-bit .ensures) ∙ c .if2 .left) in
+    (l .inv .0 ∙ more, omega arith)
 
 returns-3 : tie.Need-returns-3 Inv-loop μ-loop
 returns-3 c =

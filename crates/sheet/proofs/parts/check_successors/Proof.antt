@@ -1,4 +1,4 @@
--- `sheet::check_successors` meets its contract. The invariant: the successors left give the same answer.
+-- `sheet::parts::check_successors` meets its contract. The invariant: the successors left give the same answer.
 -- Assumes nothing.
 use mathlib.Core.Path.{_≡_, refl, sym, _∙_}
 use Prim.Native.Nat.{_+_}
@@ -7,8 +7,8 @@ use Rattle.model.specs.Bytes.{byte}
 use Rattle.model.specs.Sheet.{successorsFrom}
 use Rattle.sheet.specs.Answers.{trailerOf, checkedOf}
 use Rattle.sheet.proofs.RowAnswers.{successors-none, successors-fault, successors-more}
-use Rattle.sheet.proofs.check_successors.Statement.{statement}
-use Rattle.sheet.proofs.check_successors.Tie as tie
+use Rattle.sheet.proofs.parts.check_successors.Statement.{statement}
+use Rattle.sheet.proofs.parts.check_successors.Tie as tie
 
 abbrev Inv-loop : tie.InvT-loop
 Inv-loop b t q count at left₀ i₀ left i =

@@ -1,4 +1,4 @@
--- `sheet::check_states` meets its contract. The invariant: the states left, from the next row on, give the same answer.
+-- `sheet::parts::check_states` meets its contract. The invariant: the states left, from the next row on, give the same answer.
 -- Assumes nothing.
 use mathlib.Core.Path.{_≡_, refl, sym, _∙_}
 use Prim.Native.Nat.{_+_, _≤_}
@@ -8,8 +8,8 @@ use Rattle.sheet.specs.Answers.{trailerOf, checkedOf}
 use Rattle.sheet.proofs.Whole.{trailer-stands}
 use Rattle.sheet.proofs.RowAnswers.{row-inside}
 use Rattle.sheet.proofs.SheetAnswers.{states-gap, states-whole, states-entry, states-fault, states-more}
-use Rattle.sheet.proofs.check_states.Statement.{statement}
-use Rattle.sheet.proofs.check_states.Tie as tie
+use Rattle.sheet.proofs.parts.check_states.Statement.{statement}
+use Rattle.sheet.proofs.parts.check_states.Tie as tie
 
 abbrev Inv-loop : tie.InvT-loop
 Inv-loop b t index left₀ q₀ at₀ left q at =
@@ -46,8 +46,8 @@ cast-t16 c = omega arith
 returns : tie.Need-returns Inv-loop μ-loop
 returns c =
     let l = c .before .before .before .loop in
-    sym (l .inv .0 ∙ states-entry _ _ (l .q) (l .at) _ (c .before .word-at .ensures) (l .left) (omega arith)
-    (c .if1 .taken))
+    let fault = states-entry _ _ (l .q) (l .at) _ (c .before .word-at .ensures) (l .left) (omega arith) (c .if1 .taken) in
+    sym (l .inv .0 ∙ fault)
 
 check-row-requires : tie.Need-check-row-requires Inv-loop μ-loop
 check-row-requires c κs =
@@ -59,10 +59,13 @@ enum-known-number c = omega arith
 
 returns-2 : tie.Need-returns-2 Inv-loop μ-loop
 returns-2 c =
-    let l = c .before .before .before .before .before .before .before .loop in
-    sym (l .inv .0 ∙ states-fault _ _ (l .q) (l .at) _ (c .before .before .before .before .before .word-at .ensures)
-    (c .before .before .before .before .if1 .left) _ (c .before .before .before .check-row .ensures) (l .left)
-    (omega arith) _ _ _ (c .before .number .given .1))
+    let row = c .before .before .before in
+    let entry = row .before in
+    let l = entry .before .before .before .loop in
+    sym
+    (l .inv .0
+    ∙ states-fault _ _ (l .q) (l .at) _ (entry .before .word-at .ensures) (entry .if1 .left) _ (row .check-row .ensures)
+    (l .left) (omega arith) _ _ _ (c .before .number .given .1))
 
 enum-known-behind : tie.Need-enum-known-behind Inv-loop μ-loop
 enum-known-behind c = omega arith
@@ -78,14 +81,14 @@ loop-less c = omega arith
 
 loop-again : tie.Need-loop-again Inv-loop μ-loop
 loop-again c =
-    let l = c .before .before .before .before .before .before .before .loop in (
-      l .inv .0 ∙ states-more _ _ (l .q) (l .at) _ (c .before .before .before .before .before .word-at .ensures)
-          (c .before .before .before .before .if1 .left) _ (c .before .before .before .check-row .ensures) (l .left)
-          (omega arith) _ (c .before .behind .given .1),
-      omega arith,
-      row-inside _ _ (l .q) (l .at) _ _
-          (c .before .before .before .check-row .ensures) (c .before .behind .given .1),
-    )
+    let row = c .before .before .before in
+    let entry = row .before in
+    let l = entry .before .before .before .loop in
+    let more =
+    states-more _ _ (l .q) (l .at) _ (entry .before .word-at .ensures) (entry .if1 .left) _ (row .check-row .ensures)
+    (l .left) (omega arith) _ (c .before .behind .given .1) in
+    let inside = row-inside _ _ (l .q) (l .at) _ _ (row .check-row .ensures) (c .before .behind .given .1) in
+    (l .inv .0 ∙ more, omega arith, inside)
 
 sub-t19 : tie.Need-sub-t19 Inv-loop μ-loop
 sub-t19 c =

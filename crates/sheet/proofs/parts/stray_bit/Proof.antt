@@ -1,10 +1,10 @@
--- `sheet::stray_bit` meets its contract: each test is one of the three that `stray-tests` names.
+-- `sheet::parts::stray_bit` meets its contract: each test is one of the three that `stray-tests` names.
 -- Assumes nothing.
 use native.Mathlib.Omega.{arith}
 use Rattle.sheet.proofs.Stray.{one-shifted, stray-taken, stray-sent, stray-mark}
 use borrow.Author.Needs.{needs}
-use Rattle.sheet.proofs.stray_bit.Statement.{statement}
-use Rattle.sheet.proofs.stray_bit.Tie as tie
+use Rattle.sheet.proofs.parts.stray_bit.Statement.{statement}
+use Rattle.sheet.proofs.parts.stray_bit.Tie as tie
 
 shl-limit : tie.Need-shl-limit
 shl-limit c = search needs
