@@ -101,12 +101,12 @@ cast-t20 c = omega arith
 returns-3 : tie.Need-returns-3 Inv-loop μ-loop
 returns-3 c =
     let l = c .before .before .loop in
-    sym (l .inv .0 ∙ states-gap _ _ (l .left) (l .q) (l .at) (omega arith) (c .if2 .taken))
+    sym (l .inv .0 ∙ states-gap _ _ (l .left) (l .q) (l .at) (omega arith) (λ e. omega arith))
 
 returns-4 : tie.Need-returns-4 Inv-loop μ-loop
 returns-4 c =
     let l = c .before .before .loop in
-    sym (l .inv .0 ∙ states-whole _ _ (l .left) (l .q) (l .at) (omega arith) (c .if2 .left))
+    sym (l .inv .0 ∙ states-whole _ _ (l .left) (l .q) (l .at) (omega arith) (omega arith))
 
 pub check-states-spec : {M : Type 1} → statement M
 check-states-spec =

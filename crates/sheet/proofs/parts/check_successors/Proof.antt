@@ -31,7 +31,7 @@ returns : tie.Need-returns Inv-loop μ-loop
 unfolding byte
 returns c =
     let l = c .before .before .before .before .loop in
-    sym (l .inv .0 ∙ successors-fault _ _ _ (l .left) (l .i) (omega arith) (c .if1 .taken))
+    sym (l .inv .0 ∙ successors-fault _ _ _ (l .left) (l .i) (omega arith) (omega arith))
 
 add-i : tie.Need-add-i Inv-loop μ-loop
 add-i c = omega arith
@@ -46,7 +46,7 @@ loop-again : tie.Need-loop-again Inv-loop μ-loop
 unfolding byte
 loop-again c =
     let l = c .before .before .before .before .loop in
-    (l .inv .0 ∙ successors-more _ _ _ (l .left) (l .i) (omega arith) (c .if1 .left), omega arith)
+    (l .inv .0 ∙ successors-more _ _ _ (l .left) (l .i) (omega arith) (omega arith), omega arith)
 
 returns-2 : tie.Need-returns-2 Inv-loop μ-loop
 returns-2 c =
