@@ -1,0 +1,3 @@
+pub mod Settling
+pub mod Marks
+pub mod Links
