@@ -1,3 +1,6 @@
-pub mod Settling
 pub mod Marks
+pub mod Settling
 pub mod Links
+pub mod Work
+pub mod Rounding
+pub mod Figure
