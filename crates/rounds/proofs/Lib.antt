@@ -1,6 +1,7 @@
+pub mod Keep
 pub mod Marks
-pub mod Settling
 pub mod Links
 pub mod Work
 pub mod Rounding
-pub mod Figure
+pub mod Unrolled
+pub mod Settling
