@@ -1,0 +1,8 @@
+pub mod Options
+pub mod Codes
+pub mod Rows
+pub mod Places
+pub mod Trailer
+pub mod Stands
+pub mod Front
+pub mod Written
