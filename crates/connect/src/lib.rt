@@ -68,6 +68,33 @@ fn smaller(a: usize, b: usize) -> usize
     if a < b { a } else { b }
 }
 
+// 13, or the plan written and accepted: `count` situations with their links, those that stay unmarked, the first among them.
+fn emit(k: u8, old: &[u8], links: &[u16], marks: &[u16], order: &mut [u16], numbers: &mut [u16], plan: &mut [u8], count: u16, rounds: u16) -> Answer
+    requires { ⌜ IsSheet (now old) × WorkLists count (now links) (now marks) × Room count (now order) (now numbers) ⌝ }
+    ensures { λ r. ⌜ EmitDone k (now (old .entry)) (now (links .entry)) (now (marks .entry)) count rounds r (now (order .entry)) (now (numbers .entry)) (now (plan .entry)) (now (order .exit)) (now (numbers .exit)) (now (plan .exit)) ⌝ }
+{
+    let states = numbering::number_states(links, marks, order, numbers, count as usize);
+    let length = numbering::plan_length(links, marks, order, count as usize, states);
+    if plan.len() < length as usize {
+        return with_counts(13, count, states, rounds, 0);
+    }
+    let n = sheet::name_count(old);
+    numbering::write_plan(links, marks, order, numbers, count as usize, states, n, k, plan);
+    with_counts(0, count, states, rounds, length)
+}
+
+// 12, or what follows: the rounds, for `count` situations with their keys and links.
+fn relate(k: u8, old: &[u8], new: &[u8], keys: &[u64], links: &[u16], marks: &mut [u16], order: &mut [u16], numbers: &mut [u16], plan: &mut [u8], count: u16) -> Answer
+    requires { ⌜ WorkTable (now old) (now new) (now keys) (now links) (length (now marks)) count × (0 < count) × Room count (now order) (now numbers) ⌝ }
+    ensures { λ r. ⌜ RelateDone k (now (old .entry)) (now (new .entry)) (now (keys .entry)) (now (links .entry)) count r (now (marks .entry)) (now (order .entry)) (now (numbers .entry)) (now (plan .entry)) (now (marks .exit)) (now (order .exit)) (now (numbers .exit)) (now (plan .exit)) ⌝ }
+{
+    let rounds = rounds::settle(old, new, keys, links, marks, count as usize);
+    if marks[0] != 0 {
+        return with_counts(12, count, 0, rounds, 0);
+    }
+    emit(k, old, links, marks, order, numbers, plan, count, rounds)
+}
+
 // All numbers of a list become 0.
 fn clear(list: &mut [u16])
     ensures { λ _. ⌜ now (list .exit) ≡ map (λ x. 0) (now (list .entry)) ⌝ }

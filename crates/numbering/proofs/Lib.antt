@@ -1,0 +1,6 @@
+pub mod Kept
+pub mod Numbered
+pub mod Breadth
+pub mod Rows
+pub mod Bytes
+pub mod Writing
