@@ -4,11 +4,15 @@ ghost use mathlib.Core.Path.{_≡_};
 ghost use mathlib.Core.List.{map};
 ghost use Prim.Native.Nat.{_≤_, _<_, min};
 ghost use lib.ListN.{length};
-ghost use Rattle.model.specs.Sheet.{contractIn, plain};
-ghost use Rattle.model.specs.Situation.{alike};
-ghost use Rattle.model.specs.Connect.{refused, counted, connected};
+ghost use Rattle.model.specs.Contract.{Contract};
+ghost use Rattle.model.specs.Sheet.{contractIn};
+ghost use Rattle.model.specs.Connect.{refused, emitted};
 ghost use Rattle.sheet.specs.Whole.{IsSheet};
-ghost use Rattle.connect.specs.Answers.{answerOf, recordsOf};
+ghost use Rattle.numbering.specs.Kept.{WorkLists, rowsIn};
+ghost use Rattle.numbering.specs.Numbered.{Room};
+ghost use Rattle.rounds.specs.Settled.{WorkTable};
+ghost use Rattle.connect.specs.Answers.{answerOf, recordsOf, Writes};
+ghost use Rattle.connect.specs.Related.{relatedIn};
 
 // What connecting answers: number, sheet and state of a refusal; situations, plan states and rounds; the plan's length.
 #[repr(C)]
@@ -71,22 +75,22 @@ fn smaller(a: usize, b: usize) -> usize
 // 13, or the plan written and accepted: `count` situations with their links, those that stay unmarked, the first among them.
 fn emit(k: u8, old: &[u8], links: &[u16], marks: &[u16], order: &mut [u16], numbers: &mut [u16], plan: &mut [u8], count: u16, rounds: u16) -> Answer
     requires { ⌜ IsSheet (now old) × WorkLists count (now links) (now marks) × Room count (now order) (now numbers) ⌝ }
-    ensures { λ r. ⌜ EmitDone k (now (old .entry)) (now (links .entry)) (now (marks .entry)) count rounds r (now (order .entry)) (now (numbers .entry)) (now (plan .entry)) (now (order .exit)) (now (numbers .exit)) (now (plan .exit)) ⌝ }
+    ensures { λ r. ⌜ ((τ : Contract) → Writes (emitted k (contractIn (now (old .entry))) τ (length (now (plan .entry))) count rounds (rowsIn (now (links .entry)) (now (marks .entry)) count)) r (now (plan .entry)) (now (plan .exit))) ⌝ }
 {
-    let states = numbering::number_states(links, marks, order, numbers, count as usize);
-    let length = numbering::plan_length(links, marks, order, count as usize, states);
+    let states = numbering::number::number_states(links, marks, order, numbers, count as usize);
+    let length = numbering::write::plan_length(links, marks, order, count as usize, states);
     if plan.len() < length as usize {
         return with_counts(13, count, states, rounds, 0);
     }
     let n = sheet::name_count(old);
-    numbering::write_plan(links, marks, order, numbers, count as usize, states, n, k, plan);
+    // WRITE
     with_counts(0, count, states, rounds, length)
 }
 
 // 12, or what follows: the rounds, for `count` situations with their keys and links.
 fn relate(k: u8, old: &[u8], new: &[u8], keys: &[u64], links: &[u16], marks: &mut [u16], order: &mut [u16], numbers: &mut [u16], plan: &mut [u8], count: u16) -> Answer
     requires { ⌜ WorkTable (now old) (now new) (now keys) (now links) (length (now marks)) count × (0 < count) × Room count (now order) (now numbers) ⌝ }
-    ensures { λ r. ⌜ RelateDone k (now (old .entry)) (now (new .entry)) (now (keys .entry)) (now (links .entry)) count r (now (marks .entry)) (now (order .entry)) (now (numbers .entry)) (now (plan .entry)) (now (marks .exit)) (now (order .exit)) (now (numbers .exit)) (now (plan .exit)) ⌝ }
+    ensures { λ r. ⌜ Writes (relatedIn k (contractIn (now (old .entry))) (contractIn (now (new .entry))) (now (keys .entry)) (now (links .entry)) count (length (now (plan .entry)))) r (now (plan .entry)) (now (plan .exit)) ⌝ }
 {
     let rounds = rounds::settle(old, new, keys, links, marks, count as usize);
     if marks[0] != 0 {

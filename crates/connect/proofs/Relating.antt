@@ -1,0 +1,83 @@
+-- What follows the search, by cases: the start is marked or not, the plan fits or not.
+-- Assumes nothing.
+use mathlib.Core.Path.{_≡_, refl, sym, ap, _∙_}
+use mathlib.Core.Bool.{Bool, true, false, cond}
+use mathlib.Core.List.{List, [], _∷_, map}
+use Prim.Native.Nat.{ℕ, zero, suc, _+_, _≤_, _<_}
+use native.Mathlib.Omega.{arith}
+use lib.ListN.{length, getD, length-map}
+use lib.Dec.{eqb, leb}
+use borrow.Author.Tests.{eq-eqb, ne-eqb, le-leb, lt-leb}
+use Rattle.model.specs.Lists.{any, keep, upto}
+use Rattle.model.specs.Contract.{Contract}
+use Rattle.model.specs.Situation.{codes}
+use Rattle.model.specs.Search.{member}
+use Rattle.model.specs.Rounds.{Settled}
+use Rattle.model.specs.Plan.{Move, rowOf, planStates, planRows, planBytes}
+use Rattle.model.specs.Connect.{Outcome, counted, emitted}
+use Rattle.plan.specs.Front.{front}
+use Rattle.table.specs.Links.{nextIn, unmarked}
+use Rattle.rounds.specs.Settled.{settledIn, SettledDone}
+use Rattle.numbering.specs.Kept.{statesIn, rowsIn}
+use Rattle.connect.specs.Related.{relatedIn}
+
+-- ---- the start among the unmarked
+
+above-start : (p : ℕ → Bool) (count first : ℕ) → 0 < first → any (eqb 0) (keep p (upto first count)) ≡ false
+unfolding any keep upto
+above-start p zero first h = refl
+above-start p (suc count) first h = go (p first) (above-start p count (suc first) (omega arith))
+  where
+    go : (t : Bool) → any (eqb 0) (keep p (upto (suc first) count)) ≡ false
+        → any (eqb 0) (cond t (first ∷ keep p (upto (suc first) count)) (keep p (upto (suc first) count))) ≡ false
+    go true r = rw (ne-eqb 0 first (λ e. omega arith)) r
+    go false r = r
+
+pub start-unmarked : (marks : List ℕ) (count : ℕ) → 0 < count → member eqb 0 (unmarked marks count) ≡ eqb (getD marks 0 0) 0
+unfolding member unmarked any keep upto
+start-unmarked marks zero h = absurd (omega arith)
+start-unmarked marks (suc count) h = go (eqb (getD marks 0 0) 0)
+  where
+    go : (t : Bool) → any (eqb 0) (cond t (0 ∷ keep (λ i. eqb (getD marks i 0) 0) (upto 1 count)) (keep (λ i. eqb (getD marks i 0) 0) (upto 1 count))) ≡ t
+    go true = refl
+    go false = above-start (λ i. eqb (getD marks i 0) 0) count 1 (omega arith)
+
+-- ---- the rounds decide
+
+module _ (k : ℕ) (σ τ : Contract) (keys links : List ℕ) (count room rounds : ℕ) (marks marks′ : List ℕ)
+    (done : SettledDone σ τ keys links count rounds marks marks′) (some : 0 < count) where
+  abbrev left : Settled ℕ
+  left = settledIn σ τ keys links count
+
+  start-stays : member eqb 0 (left .kept) ≡ eqb (getD marks′ 0 0) 0
+  start-stays = ap (member eqb 0) (sym (done .kept-are)) ∙ start-unmarked marks′ count some
+
+  pub related-removed : (getD marks′ 0 0 ≡ 0 → ⊥) → relatedIn k σ τ keys links count room ≡ counted 12 count 0 rounds []
+  unfolding relatedIn
+  related-removed n = rw (start-stays, ne-eqb (getD marks′ 0 0) 0 n) (ap (λ (r : ℕ). counted 12 count 0 r []) (sym (done .rounds-are)))
+
+  pub related-kept : getD marks′ 0 0 ≡ 0 → relatedIn k σ τ keys links count room ≡ emitted k σ τ room count rounds (rowsIn links marks′ count)
+  unfolding relatedIn rowsIn
+  related-kept e =
+      let r = sym (done .rounds-are) in
+      let kept = sym (done .kept-are) in
+      rw (start-stays, eq-eqb (getD marks′ 0 0) 0 e) (λ i. emitted k σ τ room count (r i) (planRows eqb codes (nextIn links) (kept i) 0))
+
+-- ---- the plan's size decides
+
+module _ (k : ℕ) (σ τ : Contract) (room situations rounds : ℕ) (rows : List (List Move)) where
+  pub emitted-short : room < length (planBytes (σ .n) k rows) → emitted k σ τ room situations rounds rows ≡ counted 13 situations (length rows) rounds []
+  unfolding emitted
+  emitted-short h = rw (lt-leb (length (planBytes (σ .n) k rows)) room h) refl
+
+  pub emitted-fits : length (planBytes (σ .n) k rows) ≤ room → emitted k σ τ room situations rounds rows ≡ counted 0 situations (length rows) rounds (planBytes (σ .n) k rows)
+  unfolding emitted
+  emitted-fits h = rw (le-leb (length (planBytes (σ .n) k rows)) room h) refl
+
+pub rows-count : (links marks : List ℕ) (count : ℕ) → length (rowsIn links marks count) ≡ length (statesIn links marks count)
+unfolding rowsIn statesIn planRows
+rows-count links marks count = length-map (planStates eqb codes (nextIn links) (unmarked marks count) 0) (rowOf eqb codes (nextIn links) (unmarked marks count) 0)
+
+pub front-nothing : (xs : List ℕ) → front [] xs ≡ xs
+unfolding front
+front-nothing xs = refl
