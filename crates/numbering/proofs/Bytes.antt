@@ -1,8 +1,8 @@
 -- The plan's bytes row by row: one row more appends its bytes, and an entry with the length of the rows before it to the index.
 -- Assumes nothing.
 use mathlib.Core.Path.{_≡_, refl, sym, ap, _∙_}
-use mathlib.Core.List.{List, [], _∷_, _++_, map, append-assoc, append-nil}
-use Prim.Native.Nat.{ℕ, zero, suc, _+_, _*_, _≤_, _<_}
+use mathlib.Core.List.{List, [], _∷_, _++_, append-assoc, append-nil}
+use Prim.Native.Nat.{ℕ, _+_, _*_, _≤_, _<_}
 use native.Mathlib.Omega.{arith}
 use native.Mathlib.Numerals.{add-one}
 use lib.ListN.{length, getD, take, drop, length-append, length-map, take-append-drop, List·getD-map}
@@ -10,7 +10,7 @@ use lib.Seq.{take-suc, take-all}
 use Rattle.model.specs.Bytes.{le32}
 use Rattle.model.specs.Plan.{Move, rowBytes, rowsBytes, indexBytes, planBytes, planRows}
 use Rattle.model.proofs.PlanBytes.{length-moves, length-plan}
-use Rattle.numbering.specs.Kept.{statesIn, rowIn, rowsIn, WorkLists}
+use Rattle.numbering.specs.Kept.{statesIn, rowIn, rowsIn}
 use Rattle.numbering.specs.Numbered.{InOrder}
 use Rattle.numbering.proofs.Rows.{row-few, order-at}
 

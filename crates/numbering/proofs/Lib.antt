@@ -3,4 +3,6 @@ pub mod Numbered
 pub mod Breadth
 pub mod Rows
 pub mod Bytes
-pub mod Writing
+pub mod Written
+pub mod RowWritten
+pub mod PlanWritten

@@ -1,6 +1,5 @@
 // The plan's bytes by the numbered states: how many there are, and the writing of them.
 use crate::number;
-
 ghost use mathlib.Core.Path.{_≡_};
 ghost use mathlib.Core.List.{List·Memᴰ};
 ghost use Prim.Native.Nat.{ℕ, _-_, _*_, _≤_, _<_};
@@ -77,7 +76,14 @@ fn write_move(out: &mut [u8], numbers: &[u16], slot: usize, link: u16) -> usize
 }
 
 // The row of a state's situation i, at the front of what is lent: its length.
-fn write_row(links: &[u16], marks: &[u16], numbers: &[u16], count: usize, i: usize, out: &mut [u8]) -> usize
+fn write_row(
+    links: &[u16],
+    marks: &[u16],
+    numbers: &[u16],
+    count: usize,
+    i: usize,
+    out: &mut [u8],
+) -> usize
     requires { ⌜ WorkLists count (now links) (now marks) × Numbers count (statesIn (now links) (now marks) count) (now numbers) × List·Memᴰ i (statesIn (now links) (now marks) count) × (length (rowBytes (rowIn (now links) (now marks) count i)) ≤ length (now out)) ⌝ }
     ensures { λ r. ⌜ (r ≡ length (rowBytes (rowIn (now (links .entry)) (now (marks .entry)) count i))) × (now (out .exit) ≡ front (rowBytes (rowIn (now (links .entry)) (now (marks .entry)) count i)) (now (out .entry))) ⌝ }
 {
@@ -94,7 +100,15 @@ fn write_row(links: &[u16], marks: &[u16], numbers: &[u16], count: usize, i: usi
 }
 
 // The rows of the states, each into the rest of what is lent, directly behind the row before: their length.
-fn write_rows(links: &[u16], marks: &[u16], order: &[u16], numbers: &[u16], count: usize, states: u16, out: &mut [u8]) -> usize
+fn write_rows(
+    links: &[u16],
+    marks: &[u16],
+    order: &[u16],
+    numbers: &[u16],
+    count: usize,
+    states: u16,
+    out: &mut [u8],
+) -> u32
     requires { ⌜ WorkLists count (now links) (now marks) × Numbered count (statesIn (now links) (now marks) count) states (now order) (now numbers) × (length (rowsBytes (rowsIn (now links) (now marks) count)) ≤ length (now out)) ⌝ }
     ensures { λ r. ⌜ (r ≡ length (rowsBytes (rowsIn (now (links .entry)) (now (marks .entry)) count))) × (now (out .exit) ≡ front (rowsBytes (rowsIn (now (links .entry)) (now (marks .entry)) count)) (now (out .entry))) ⌝ }
 {
@@ -105,11 +119,18 @@ fn write_rows(links: &[u16], marks: &[u16], order: &[u16], numbers: &[u16], coun
         at = at + write_row(links, marks, numbers, count, i, &mut out[at..]);
         p = p + 1;
     }
-    at
+    at as u32
 }
 
 // The index: the offset of each row, the first at 0.
-fn write_index(links: &[u16], marks: &[u16], order: &[u16], count: usize, states: u16, out: &mut [u8])
+fn write_index(
+    links: &[u16],
+    marks: &[u16],
+    order: &[u16],
+    count: usize,
+    states: u16,
+    out: &mut [u8],
+)
     requires { ⌜ WorkLists count (now links) (now marks) × InOrder (statesIn (now links) (now marks) count) states (now order) × (4 * states ≤ length (now out)) ⌝ }
     ensures { λ _. ⌜ now (out .exit) ≡ front (indexBytes 0 (rowsIn (now (links .entry)) (now (marks .entry)) count)) (now (out .entry)) ⌝ }
 {
@@ -125,12 +146,23 @@ fn write_index(links: &[u16], marks: &[u16], order: &[u16], count: usize, states
 }
 
 // The plan, at the front of what is lent; the bytes beyond it are untouched.
-pub fn write_plan(links: &[u16], marks: &[u16], order: &[u16], numbers: &[u16], count: usize, states: u16, n: u8, k: u8, out: &mut [u8])
+pub fn write_plan(
+    links: &[u16],
+    marks: &[u16],
+    order: &[u16],
+    numbers: &[u16],
+    count: usize,
+    states: u16,
+    n: u8,
+    k: u8,
+    out: &mut [u8],
+)
     requires { ⌜ WorkLists count (now links) (now marks) × Numbered count (statesIn (now links) (now marks) count) states (now order) (now numbers) × (length (planBytes n k (rowsIn (now links) (now marks) count)) ≤ length (now out)) ⌝ }
     ensures { λ _. ⌜ now (out .exit) ≡ front (planBytes n k (rowsIn (now (links .entry)) (now (marks .entry)) count)) (now (out .entry)) ⌝ }
 {
     let index = write_rows(links, marks, order, numbers, count, states, out);
-    write_index(links, marks, order, count, states, &mut out[index..]);
-    let trailer = index + 4 * (states as usize);
-    plan::write::put_trailer(&mut out[trailer..], index as u32, states, n, k);
+    let behind = index as usize;
+    write_index(links, marks, order, count, states, &mut out[behind..]);
+    let trailer = behind + 4 * (states as usize);
+    plan::write::put_trailer(&mut out[trailer..], index, states, n, k);
 }

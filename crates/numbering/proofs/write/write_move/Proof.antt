@@ -1,7 +1,7 @@
 -- `numbering::write::write_move` meets its contract: nothing without a link, and with one the move that its number gives.
 -- Assumes nothing.
 use native.Mathlib.Omega.{arith}
-use Rattle.numbering.proofs.Writing.{no-move, one-move, move-room}
+use Rattle.numbering.proofs.RowWritten.{no-move, one-move, move-room}
 use borrow.Author.Needs.{needs}
 use Rattle.numbering.proofs.write.write_move.Statement.{statement}
 use Rattle.numbering.proofs.write.write_move.Tie as tie

@@ -1,70 +1,79 @@
+-- `numbering::write::write_rows` meets its contract. The loop's invariant: the rows of the first p states stand at the front, one
+-- directly behind the other. The measure is the number of rows left.
+-- Assumes nothing.
+use Prim.Native.Nat.{_-_}
+use native.Mathlib.Omega.{arith}
+use borrow.Author.Needs.{needs}
+use Rattle.numbering.proofs.Rows.{order-room, order-known, few-in-order}
+use Rattle.numbering.proofs.PlanWritten.{RowsOnTheWay, rows-begun, rows-same-length, rows-at, rows-written, row-requires, rows-next}
 use Rattle.numbering.proofs.write.write_rows.Statement.{statement}
 use Rattle.numbering.proofs.write.write_rows.Tie as tie
-use Rattle.numbering.proofs.write.write_rows.Reads as reads
-use Rattle.numbering.proofs.write.write_rows.Lts as lts
-use Rattle.numbering.proofs.write.write_row.Reads as write-row-reads
 
 abbrev Inv-loop : tie.InvT-loop
-Inv-loop links marks order numbers count states out₀ at₀ p₀ out at p = ?
+Inv-loop links marks order numbers count states out₀ at₀ p₀ out at p = RowsOnTheWay links marks count states out₀ out at p
 
 abbrev μ-loop : tie.MeasureT-loop
-μ-loop links marks order numbers count states out₀ at₀ p₀ out at p = ?
+μ-loop links marks order numbers count states out₀ at₀ p₀ out at p = states - p
 
--- src/write.rt:103:5
 loop-holds : tie.Need-loop-holds Inv-loop μ-loop
-loop-holds c = ?
+loop-holds c = rows-begun _ (c .before .before .before .before .before .pre .2)
 
--- src/write.rt:104:17
 mul-i : tie.Need-mul-i Inv-loop μ-loop
-mul-i c = ?
+mul-i c = let p = c .before .before .before .before .before .before .before .pre in omega (arith, few-in-order (p .0) (p .1 .in-order))
 
--- src/write.rt:104:17
 shared-slice-read-i : tie.Need-shared-slice-read-i Inv-loop μ-loop
-shared-slice-read-i c = ?
+shared-slice-read-i c = omega (arith, order-room (c .before .before .before .before .before .before .before .before .pre .1 .in-order))
 
--- src/write.rt:104:17
 cast-i : tie.Need-cast-i Inv-loop μ-loop
-cast-i c = ?
+cast-i c = omega (arith, c .shared-slice-known5 .given (c .before .before .loop .p))
 
--- src/write.rt:105:62
 sub-write-row : tie.Need-sub-write-row Inv-loop μ-loop
-sub-write-row c = ?
+sub-write-row c = let h = rows-at (c .before .before .before .before .before .before .before .before .pre .1 .in-order) (c .before .before .loop .inv) in search needs
 
--- src/write.rt:105:62
 part-write-row-start : tie.Need-part-write-row-start Inv-loop μ-loop
-part-write-row-start c = ?
+part-write-row-start c = let h = rows-at (c .before .before .before .before .before .before .before .before .pre .1 .in-order) (c .before .before .loop .inv) in search needs
 
--- src/write.rt:105:62
 part-write-row-end : tie.Need-part-write-row-end Inv-loop μ-loop
-part-write-row-end c = ?
+part-write-row-end c = let h = rows-at (c .before .before .before .before .before .before .before .before .pre .1 .in-order) (c .before .before .loop .inv) in search needs
 
--- src/write.rt:105:19
 write-row-requires : tie.Need-write-row-requires Inv-loop μ-loop
-write-row-requires c κs = ?
+write-row-requires c κs =
+    let p = c .before .before .before .before .before .before .before .before .before .pre in
+    let is = p .1 .in-order in
+    let h = c .before .before .loop-test .taken in
+    (p .0, p .1 .has-numbers, order-known is _ h, row-requires is (c .before .before .before .loop .inv) h)
 
--- src/write.rt:105:14
 add-at : tie.Need-add-at Inv-loop μ-loop
-add-at c = ?
+add-at c =
+    let is = c .before .before .before .before .before .before .before .before .before .before .before .before .pre .1 .in-order in
+    let e = c .before .before .write-row .ensures in
+    let next = rows-next is (c .before .before .before .before .before .before .loop .inv) (c .before .before .before .before .before .loop-test .taken) (e .0) (e .1) in
+    omega (arith, next .measured .small, next .measured .among, few-in-order (c .before .before .before .before .before .before .before .before .before .before .before .before .pre .0) is)
 
--- src/write.rt:106:13
 add-p : tie.Need-add-p Inv-loop μ-loop
-add-p c = ?
+add-p c = omega arith
 
--- src/write.rt:103:5
 loop-less : tie.Need-loop-less Inv-loop μ-loop
-loop-less c = ?
+loop-less c = omega arith
 
--- src/write.rt:103:5
 loop-again : tie.Need-loop-again Inv-loop μ-loop
-loop-again c = ?
+loop-again c =
+    let is = c .before .before .before .before .before .before .before .before .before .before .before .before .pre .1 .in-order in
+    let e = c .before .before .write-row .ensures in
+    let next = rows-next is (c .before .before .before .before .before .before .loop .inv) (c .before .before .before .before .before .loop-test .taken) (e .0) (e .1) in
+    next
 
--- src/write.rt:97:1
+cast-result : tie.Need-cast-result Inv-loop μ-loop
+cast-result c =
+    let p = c .before .before .before .before .before .before .before .pre in
+    let m = c .before .loop .inv .measured in
+    omega (arith, few-in-order (p .0) (p .1 .in-order))
+
 same-length : tie.Need-same-length Inv-loop μ-loop
-same-length c = ?
+same-length c = rows-same-length (c .before .before .before .before .before .before .before .pre .1 .in-order) (c .before .loop .inv)
 
--- src/write.rt:97:1
 returns : tie.Need-returns Inv-loop μ-loop
-returns c = ?
+returns c = rows-written (c .before .before .before .before .before .before .before .pre .1 .in-order) (c .before .loop .inv) (c .loop-test .left)
 
 pub write-rows-spec : {M : Type 1} → statement M
 write-rows-spec =
@@ -84,5 +93,6 @@ write-rows-spec =
     add-p
     loop-less
     loop-again
+    cast-result
     same-length
     returns)
