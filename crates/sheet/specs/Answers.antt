@@ -1,0 +1,34 @@
+-- The answers of the checks, for what the model reads.
+-- Assumes nothing.
+use mathlib.Core.List.{List}
+use Prim.Native.Nat.{ℕ}
+use Rattle.model.specs.Sheet as model
+use Rattle.model.specs.Sheet.{Reading, Fault, good, refusal}
+use Rattle.sheet.specs.Union.{unionFrom}
+use Rattle.sheet.specs.declared.Trailer as declared
+use Rattle.sheet.specs.declared.Checked.{Checked}
+use Rattle.sheet.specs.declared.Checked.the-variants as C
+use Rattle.sheet.specs.declared.Masks.{Masks}
+use Rattle.sheet.specs.declared.Masks.the-variants as M
+use Rattle.sheet.specs.declared.Row.{Row}
+use Rattle.sheet.specs.declared.Row.the-variants as R
+
+-- the trailer that a struct holds
+abbrev pub trailerOf : declared.Trailer → model.Trailer
+trailerOf t =
+    record { index = t .index; count = t .count; n = t .n; role = t .role; closing = t .closing }
+
+-- a reading as an answer: the number, state and offset of its fault
+unfoldable pub checkedOf : {A : Type 0} → Reading Fault A → Checked
+checkedOf (good a) = C.Whole
+checkedOf (refusal f) = C.Fault (f .number) (f .state) (f .offset)
+
+-- masks that were read, together with those of `union`
+unfoldable pub unionIn : ℕ → Reading Fault (List ℕ) → Masks
+unionIn union (good masks) = M.Union (unionFrom union masks)
+unionIn union (refusal f) = M.Fault (f .number) (f .state) (f .offset)
+
+-- a row that was read: where the next one begins
+unfoldable pub behindIn : Reading Fault model.Row → Row
+behindIn (good row) = R.Behind (row .behind)
+behindIn (refusal f) = R.Fault (f .number) (f .state) (f .offset)

@@ -1,0 +1,15 @@
+-- Bytes that are a sheet, and where its rows stand.
+-- Assumes nothing.
+use mathlib.Core.Path.{_≡_}
+use mathlib.Core.List.{List}
+use Prim.Native.Nat.{ℕ, _+_, _*_}
+use Rattle.model.specs.Bytes.{word}
+use Rattle.model.specs.Sheet.{Sheet, good, readSheet, trailer}
+
+-- bytes that none of refusals 1 to 7 is given for
+abbrev pub IsSheet : List ℕ → Type 0
+IsSheet b = (s : Sheet) × (readSheet b ≡ good s)
+
+-- "an index with a 16-bit offset per state": where the row of state q begins
+unfoldable pub rowStart : List ℕ → ℕ → ℕ
+rowStart b q = word b (trailer b .index + 2 * q)
