@@ -20,3 +20,8 @@ pub mod Connect
 pub mod Demand1
 pub mod Demand2
 pub mod Demand3
+pub mod Codes
+pub mod Masks
+pub mod Moves
+pub mod Ranges
+pub mod Walk
