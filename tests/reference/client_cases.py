@@ -1,0 +1,68 @@
+"""Clients to be checked against services.
+
+A record is: the client sheet's length (16 bits), that sheet, and the service
+sheet to the end.  Its line is: number, sheet, state, and 1 for yes or 0.
+"""
+
+from .chance import Chance
+from .compliance import check_client
+from .pair_cases import small_shape
+from .random_contracts import mirrored, random_contract, resembling
+from .records import Record, measured
+from .sheet_random import careless_sheet, changed
+from .sheets import CLIENT, SERVICE, write_sheet
+
+SEED = 20100904
+
+
+def record(label, client, service):
+    return Record(label, measured(client) + service)
+
+
+def verdict(data):
+    behind = 2 + int.from_bytes(data[:2], "little")
+    return check_client(data[2:behind], data[behind:])
+
+
+def expected(data):
+    return " ".join(str(int(figure)) for figure in verdict(data)) + "\n"
+
+
+def group(data):
+    number, _, _, complies = verdict(data)
+    return ("yes" if complies else "no") if number == 0 else f"{number:2}"
+
+
+def small_system(chance):
+    """A service and a client made for it, or for one that resembles it, or
+    for none."""
+    shape = small_shape(chance)
+    service = random_contract(chance, shape, SERVICE)
+    kind = chance.below(4)
+    if kind == 0:
+        return random_contract(chance, shape, CLIENT), service
+    return mirrored(service if kind == 1 else resembling(chance, shape, service), chance), service
+
+
+def small_sheets(chance):
+    client, service = small_system(chance)
+    return write_sheet(client), write_sheet(service)
+
+
+def cases():
+    chance = Chance(SEED)
+    for i in range(700):
+        yield record(f"system {i}", *small_sheets(chance))
+    for i in range(80):
+        client, service = small_sheets(chance)
+        yield record(f"client changed {i}", changed(chance, client), service)
+        yield record(f"service changed {i}", client, changed(chance, service))
+    for i in range(60):
+        yield record(f"careless sheets {i}", careless_sheet(chance), careless_sheet(chance))
+    for i in range(20):
+        client, service = small_sheets(chance)
+        yield record(f"service first {i}", service, client)
+        yield record(f"two clients {i}", client, client)
+        yield record(f"other names {i}", client, small_sheets(chance)[1])
+        yield record(f"client cut off {i}", client[: chance.below(6)], service)
+        yield record(f"service cut off {i}", client, service[: chance.below(6)])

@@ -1,0 +1,90 @@
+"""Writes the stored data: `python3 -m tests.reference.make` from the
+repository's root.
+
+    make                    write every stored file again
+    make check              say whether every stored file is as it would be written
+    make table KIND         how many cases there are of each group
+    make show KIND NUMBER   a case, counted from 0: label, bytes, expected lines
+    make write KIND FOLDER  the two files of any kind, into a folder
+
+A kind is one of sheets, pairs, steps, clients, runs.
+"""
+
+import sys
+from collections import Counter
+from pathlib import Path
+
+from . import client_cases, pair_cases, run_cases, sheet_cases, step_cases
+from .records import packed
+
+KINDS = {
+    "sheets": sheet_cases,
+    "pairs": pair_cases,
+    "steps": step_cases,
+    "clients": client_cases,
+    "runs": run_cases,
+}
+
+#: The kinds that a test program runs, and its crate.
+STORED = {"sheets": Path("crates/sheet_run")}
+
+
+def files(kind):
+    """What a kind's two files hold."""
+    records = list(KINDS[kind].cases())
+    lines = "".join(KINDS[kind].expected(record.data) for record in records)
+    return {"stdin": packed(records), "stdout": lines.encode()}
+
+
+def write(kind, folder):
+    folder.mkdir(parents=True, exist_ok=True)
+    for name, data in files(kind).items():
+        (folder / name).write_bytes(data)
+        print(f"{folder / name}: {len(data)} bytes")
+
+
+def differing(kind, folder):
+    """The stored files that are not as they would be written."""
+    for name, data in files(kind).items():
+        path = folder / name
+        if not path.is_file() or path.read_bytes() != data:
+            yield path
+
+
+def table(kind):
+    groups = Counter(KINDS[kind].group(record.data) for record in KINDS[kind].cases())
+    for group in sorted(groups):
+        print(f"{group}: {groups[group]}")
+    print(f"all: {sum(groups.values())}")
+
+
+def show(kind, number):
+    for i, record in enumerate(KINDS[kind].cases()):
+        if i == number:
+            print(record.label, record.data.hex(" "), KINDS[kind].expected(record.data), sep="\n", end="")
+
+
+def main(arguments):
+    match arguments:
+        case []:
+            for kind, folder in STORED.items():
+                write(kind, folder)
+        case ["check"]:
+            wrong = [path for kind, folder in STORED.items() for path in differing(kind, folder)]
+            for path in wrong:
+                print(f"{path}: not as it would be written")
+            return 1 if wrong else 0
+        case ["table", kind] if kind in KINDS:
+            table(kind)
+        case ["show", kind, number] if kind in KINDS and number.isdigit():
+            show(kind, int(number))
+        case ["write", kind, folder] if kind in KINDS:
+            write(kind, Path(folder))
+        case _:
+            print(__doc__)
+            return 2
+    return 0
+
+
+if __name__ == "__main__":
+    sys.exit(main(sys.argv[1:]))

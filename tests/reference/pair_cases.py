@@ -1,0 +1,162 @@
+"""Pairs to be connected.
+
+A record is: number of lent records (16 bits), lent plan bytes (16 bits), then
+the connecting program's input: k (one byte), the first sheet's length (16
+bits), that sheet, and the second to the end.  Before the call every byte of
+the lent plan is EE hex and no record of the work table is zero.
+
+Its line is: number, sheet, state; situations, plan states, rounds; the plan's
+length; the digest of the whole lent plan after the call; how many lent
+records are zero after it, and how many are as they were.
+"""
+
+from .cases import CASES
+from .chance import Chance
+from .connecting import ZERO_RECORD, connect
+from .moves import Situation
+from .random_contracts import Shape, random_contract, resembling
+from .records import Record, digest, measured, number_bytes
+from .sheet_random import careless_sheet, changed
+from .sheets import CLIENT, SERVICE, Contract, state, write_sheet
+
+SEED = 20100902
+FILLING = 0xEE
+MARKED = Situation((1,) * 14, 1, 1)
+
+#: What most records lend: more situations than most of the pairs have.
+RECORDS, ROOM = 300, 20000
+
+
+def record(label, first, second, k, records=RECORDS, room=ROOM):
+    data = number_bytes(records) + number_bytes(room) + bytes([k]) + measured(first) + second
+    return Record(label, data)
+
+
+def called(data):
+    """The call that a record describes."""
+    records, room = (int.from_bytes(data[at : at + 2], "little") for at in (0, 2))
+    behind = 7 + int.from_bytes(data[5:7], "little")
+    return connect(data[7:behind], data[behind:], data[4], bytes([FILLING]) * room, [MARKED] * records)
+
+
+def expected(data):
+    answer, plan, table = called(data)
+    zero, same = table.count(ZERO_RECORD), table.count(MARKED)
+    return " ".join(map(str, [*answer, digest(plan), zero, same])) + "\n"
+
+
+def group(data):
+    """The number, and for a pair that was decided its k."""
+    number = called(data).answer.number
+    return f"{number:2} k {data[4]}" if number in (0, 12) else f"{number:2}"
+
+
+def small_shape(chance, n=None):
+    names = chance.pick([0, 1, 1, 2, 2, 2, 3, 3]) if n is None else n
+    return Shape(names, chance.between(1, 5), chance.between(1, 3), chance.between(1, 3), 5)
+
+
+def small_pair(chance):
+    """Two contracts over the same names, for two in three alike."""
+    shape = small_shape(chance)
+    old = random_contract(chance, shape, SERVICE)
+    if chance.one_in(3):
+        return old, random_contract(chance, shape, SERVICE)
+    return old, resembling(chance, shape, old)
+
+
+def small_sheets(chance):
+    old, new = small_pair(chance)
+    return write_sheet(old), write_sheet(new)
+
+
+def named_cases():
+    for case in CASES:
+        first, second = (write_sheet(contract) for contract in case.contracts())
+        for k in range(5):
+            yield record(f"{case.name}, k {k}", first, second, k)
+
+
+def limits(chance):
+    """Accepted pairs and refused ones with exactly enough lent, and less."""
+    found = 0
+    while found < 60:
+        first, second = small_sheets(chance)
+        k = chance.below(4)
+        answer = connect(first, second, k, bytes(ROOM), [MARKED] * RECORDS).answer
+        if answer.number not in (0, 12) or answer.situations < 2:
+            continue
+        found += 1
+        situations, length = answer.situations, answer.plan_length
+        for records in (situations, situations - 1, 1, 0):
+            yield record(f"{records} records for {situations}", first, second, k, records)
+        for room in sorted({length, max(length - 1, 0), 0}):
+            yield record(f"{room} bytes for {length}", first, second, k, situations, room)
+
+
+def many_situations():
+    """As many situations as there are buffers, at the edge of 4,096."""
+    for n, k, records in ((3, 3, 4096), (3, 3, 4095), (3, 3, 4097), (6, 1, 4096), (7, 1, 5000)):
+        every = [*range(7, 7 + n), *range(n)]
+        loop = state([sum(1 << action for action in every)], [0] * 2 * n)
+        sheet = write_sheet(Contract(n, SERVICE, (loop,)))
+        yield record(f"all buffers, n {n}, k {k}", sheet, sheet, k, records, 0)
+
+
+def refused(chance):
+    """Refusals 1 to 10, alone and one behind another."""
+    for i in range(120):
+        first, second = small_sheets(chance)
+        yield record(f"first sheet changed {i}", changed(chance, first), second, chance.below(5))
+        yield record(f"second sheet changed {i}", first, changed(chance, second), chance.below(5))
+    for i in range(60):
+        first, second = careless_sheet(chance), careless_sheet(chance)
+        yield record(f"two careless sheets {i}", first, second, chance.below(6))
+    for i in range(60):
+        sheets = []
+        for _ in range(2):
+            shape = small_shape(chance, chance.pick([2, 2, 3]))
+            sheets.append(write_sheet(random_contract(chance, shape, chance.pick([SERVICE, SERVICE, CLIENT]))))
+        yield record(f"roles and names {i}", *sheets, chance.pick([0, 1, 4]))
+    for k in (4, 5, 128, 255):
+        yield record(f"k {k}", *small_sheets(chance), k)
+    for i in range(12):
+        first, second = small_sheets(chance)
+        yield record(f"second sheet empty {i}", first, b"", 0)
+        yield record(f"first sheet empty {i}", b"", second, 0)
+
+
+def kind_of(answer):
+    """What a decided pair is a case of; None for one of no interest."""
+    if answer.number == 0 and answer.situations > 2:
+        return "connects" if answer.rounds == 0 else "connects after removal"
+    if answer.number == 12 and answer.situations > 1:
+        return "no adapter" if answer.rounds == 1 else "no adapter after rounds"
+    return None
+
+
+#: Of each k and kind.
+WANTED = {"connects": 150, "connects after removal": 100, "no adapter": 100, "no adapter after rounds": 150}
+
+
+def decided(chance):
+    """As many pairs of each kind as wanted, at each k, and a few of any kind."""
+    for k in range(4):
+        left = dict(WANTED)
+        while any(left.values()):
+            first, second = small_sheets(chance)
+            kind = kind_of(connect(first, second, k, bytes(ROOM), [MARKED] * RECORDS).answer)
+            if left.get(kind, 0) > 0:
+                left[kind] -= 1
+                yield record(f"{kind}, k {k}", first, second, k)
+        for i in range(50):
+            yield record(f"pair {i}, k {k}", *small_sheets(chance), k)
+
+
+def cases():
+    chance = Chance(SEED)
+    yield from named_cases()
+    yield from many_situations()
+    yield from limits(chance)
+    yield from refused(chance)
+    yield from decided(chance)

@@ -1,0 +1,45 @@
+"""The data files: a program has one input, so the cases follow one another,
+each as a 16-bit length and that many bytes."""
+
+from typing import NamedTuple
+
+
+class Record(NamedTuple):
+    """A case: what it is about, and its bytes."""
+
+    label: str
+    data: bytes
+
+
+def number_bytes(number, width=2):
+    return number.to_bytes(width, "little")
+
+
+def measured(data):
+    """The bytes behind their length."""
+    return number_bytes(len(data)) + data
+
+
+def packed(records):
+    return b"".join(measured(record.data) for record in records)
+
+
+def unpacked(data):
+    """The bytes of each record of a data file."""
+    found, at = [], 0
+    while at < len(data):
+        length = int.from_bytes(data[at : at + 2], "little")
+        found.append(data[at + 2 : at + 2 + length])
+        at += 2 + length
+    return found
+
+
+DIGEST_BASE, DIGEST_PRIME = 257, 4294967291
+
+
+def digest(data):
+    """A figure for many bytes, printed in their place.  It is 0 for none."""
+    figure = 0
+    for byte in data:
+        figure = (figure * DIGEST_BASE + byte + 1) % DIGEST_PRIME
+    return figure

@@ -1,0 +1,29 @@
+"""Sheets to be checked: a record is a sheet, its line is number, state and
+offset of its refusal, or 0 0 0 for a whole sheet."""
+
+from .chance import Chance
+from .sheet_edges import edges
+from .sheet_random import random_sheets
+from .sheets import Refusal, read_sheet
+
+SEED = 20100901
+
+
+def cases():
+    """Every edge, then random sheets, no sheet twice."""
+    seen = set()
+    for record in (*edges(), *random_sheets(Chance(SEED))):
+        if record.data not in seen:
+            seen.add(record.data)
+            yield record
+
+
+def expected(data):
+    read = read_sheet(data)
+    refusal = read if isinstance(read, Refusal) else Refusal(0)
+    return f"{refusal.number} {refusal.state} {refusal.offset}\n"
+
+
+def group(data):
+    """What a table of the cases counts them by: the refusal's number."""
+    return int(expected(data).split()[0])
