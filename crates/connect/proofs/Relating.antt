@@ -77,7 +77,3 @@ module _ (k : ℕ) (σ τ : Contract) (room situations rounds : ℕ) (rows : Lis
 pub rows-count : (links marks : List ℕ) (count : ℕ) → length (rowsIn links marks count) ≡ length (statesIn links marks count)
 unfolding rowsIn statesIn planRows
 rows-count links marks count = length-map (planStates eqb codes (nextIn links) (unmarked marks count) 0) (rowOf eqb codes (nextIn links) (unmarked marks count) 0)
-
-pub front-nothing : (xs : List ℕ) → front [] xs ≡ xs
-unfolding front
-front-nothing xs = refl

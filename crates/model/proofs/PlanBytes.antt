@@ -45,11 +45,11 @@ at-low b i x h = omega (arith, at-head b i (x % 256) (x / 256 % 256 ∷ []) h, a
 at-word : (b : List ℕ) (i x : ℕ) → At b i (le16 x) → x < 65536 → word b i ≡ x
 at-word b i x h l = omega (arith, at-low b i x h)
 
-length-16 : (x : ℕ) → length (le16 x) ≡ 2
+pub length-16 : (x : ℕ) → length (le16 x) ≡ 2
 unfolding le16
 length-16 x = refl
 
-length-32 : (x : ℕ) → length (le32 x) ≡ 4
+pub length-32 : (x : ℕ) → length (le32 x) ≡ 4
 unfolding le32 le16
 length-32 x = refl
 
