@@ -1,5 +1,5 @@
 // The plan's bytes by the numbered states: how many there are, and the writing of them.
-use crate::number;
+use crate::moves;
 ghost use mathlib.Core.Path.{_≡_};
 ghost use mathlib.Core.List.{List·Memᴰ};
 ghost use Prim.Native.Nat.{ℕ, _-_, _*_, _≤_, _<_};
@@ -10,30 +10,6 @@ ghost use Rattle.plan.specs.Front.{front};
 ghost use Rattle.numbering.specs.Kept.{statesIn, rowIn, rowsIn, WorkLists};
 ghost use Rattle.numbering.specs.Numbered.{InOrder, Numbers, Numbered, moveBy};
 
-// How many moves the row of situation i has.
-pub fn count_moves(links: &[u16], marks: &[u16], count: usize, i: usize) -> usize
-    requires { ⌜ WorkLists count (now links) (now marks) × (i < count) ⌝ }
-    ensures { λ r. ⌜ r ≡ length (rowIn (now (links .entry)) (now (marks .entry)) count i) ⌝ }
-{
-    let mut moves: usize = 0;
-    let mut slot: usize = 0;
-    while slot < 42 {
-        if number::kept_link(links, marks, i, slot) != 0 {
-            moves = moves + 1;
-        }
-        slot = slot + 1;
-    }
-    moves
-}
-
-// How many bytes the row of situation i has.
-fn row_length(links: &[u16], marks: &[u16], count: usize, i: u16) -> u32
-    requires { ⌜ WorkLists count (now links) (now marks) × (i < count) ⌝ }
-    ensures { λ r. ⌜ r ≡ length (rowBytes (rowIn (now (links .entry)) (now (marks .entry)) count i)) ⌝ }
-{
-    1 + 3 * (count_moves(links, marks, count, i as usize) as u32)
-}
-
 // How many bytes the plan has. The states stand in order.
 pub fn plan_length(links: &[u16], marks: &[u16], order: &[u16], count: usize, states: u16) -> u32
     requires { ⌜ WorkLists count (now links) (now marks) × InOrder (statesIn (now links) (now marks) count) states (now order) ⌝ }
@@ -42,7 +18,7 @@ pub fn plan_length(links: &[u16], marks: &[u16], order: &[u16], count: usize, st
     let mut rows: u32 = 0;
     let mut p: usize = 0;
     while p < states as usize {
-        rows = rows + row_length(links, marks, count, order[p]);
+        rows = rows + moves::row_length(links, marks, count, order[p]);
         p = p + 1;
     }
     rows + 4 * (states as u32) + 8
@@ -87,12 +63,12 @@ fn write_row(
     requires { ⌜ WorkLists count (now links) (now marks) × Numbers count (statesIn (now links) (now marks) count) (now numbers) × List·Memᴰ i (statesIn (now links) (now marks) count) × (length (rowBytes (rowIn (now links) (now marks) count i)) ≤ length (now out)) ⌝ }
     ensures { λ r. ⌜ (r ≡ length (rowBytes (rowIn (now (links .entry)) (now (marks .entry)) count i))) × (now (out .exit) ≡ front (rowBytes (rowIn (now (links .entry)) (now (marks .entry)) count i)) (now (out .entry))) ⌝ }
 {
-    let size = count_moves(links, marks, count, i);
+    let size = moves::count_moves(links, marks, count, i);
     plan::write::put_byte(out, size as u8);
     let mut at: usize = 1;
     let mut slot: usize = 0;
     while slot < 42 {
-        let link = number::kept_link(links, marks, i, slot);
+        let link = moves::kept_link(links, marks, i, slot);
         at = at + write_move(&mut out[at..], numbers, slot, link);
         slot = slot + 1;
     }
@@ -139,7 +115,7 @@ fn write_index(
     let mut p: usize = 0;
     while p < states as usize {
         plan::write::put_dword(&mut out[at..], row);
-        row = row + row_length(links, marks, count, order[p]);
+        row = row + moves::row_length(links, marks, count, order[p]);
         at = at + 4;
         p = p + 1;
     }

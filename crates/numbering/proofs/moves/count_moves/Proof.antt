@@ -1,12 +1,12 @@
--- `numbering::write::count_moves` meets its contract. The loop's invariant: the moves counted and those of the slots left are all
+-- `numbering::moves::count_moves` meets its contract. The loop's invariant: the moves counted and those of the slots left are all
 -- of the row. The measure is the number of slots left.
 -- Assumes nothing.
 use mathlib.Core.Logic.{⊎-elim}
 use Prim.Native.Nat.{_-_, _≤_}
 use native.Mathlib.Omega.{arith}
 use Rattle.numbering.proofs.Rows.{Counted, counted-none, counted-all, counted-skip, counted-one}
-use Rattle.numbering.proofs.write.count_moves.Statement.{statement}
-use Rattle.numbering.proofs.write.count_moves.Tie as tie
+use Rattle.numbering.proofs.moves.count_moves.Statement.{statement}
+use Rattle.numbering.proofs.moves.count_moves.Tie as tie
 
 abbrev Inv-loop : tie.InvT-loop
 Inv-loop links marks count i moves₀ slot₀ moves slot = (slot ≤ 42) × Counted links marks count i moves slot

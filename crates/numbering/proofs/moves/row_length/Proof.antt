@@ -1,11 +1,11 @@
--- `numbering::write::row_length` meets its contract: a row has a count byte and three bytes per move, 42 moves at most.
+-- `numbering::moves::row_length` meets its contract: a row has a count byte and three bytes per move, 42 moves at most.
 -- Assumes nothing.
 use native.Mathlib.Omega.{arith}
 use Rattle.numbering.proofs.Rows.{moves-few}
 use Rattle.numbering.proofs.Bytes.{row-length}
 use borrow.Author.Needs.{needs}
-use Rattle.numbering.proofs.write.row_length.Statement.{statement}
-use Rattle.numbering.proofs.write.row_length.Tie as tie
+use Rattle.numbering.proofs.moves.row_length.Statement.{statement}
+use Rattle.numbering.proofs.moves.row_length.Tie as tie
 
 count-moves-requires : tie.Need-count-moves-requires
 count-moves-requires c κs = search needs
