@@ -19,7 +19,10 @@ use Rattle.plan.specs.Front.{front}
 use Rattle.table.specs.Links.{nextIn, unmarked}
 use Rattle.rounds.specs.Settled.{settledIn, SettledDone}
 use Rattle.numbering.specs.Kept.{statesIn, rowsIn}
+use Rattle.plan.proofs.Front.{front-none}
+use Rattle.connect.specs.Answers.{answerOf, Writes}
 use Rattle.connect.specs.Related.{relatedIn}
+use Rattle.connect.specs.declared.Answer.{Answer}
 
 -- ---- the start among the unmarked
 
@@ -65,15 +68,35 @@ module _ (k : ℕ) (σ τ : Contract) (keys links : List ℕ) (count room rounds
 
 -- ---- the plan's size decides
 
-module _ (k : ℕ) (σ τ : Contract) (room situations rounds : ℕ) (rows : List (List Move)) where
-  pub emitted-short : room < length (planBytes (σ .n) k rows) → emitted k σ τ room situations rounds rows ≡ counted 13 situations (length rows) rounds []
-  unfolding emitted
-  emitted-short h = rw (lt-leb (length (planBytes (σ .n) k rows)) room h) refl
-
-  pub emitted-fits : length (planBytes (σ .n) k rows) ≤ room → emitted k σ τ room situations rounds rows ≡ counted 0 situations (length rows) rounds (planBytes (σ .n) k rows)
-  unfolding emitted
-  emitted-fits h = rw (le-leb (length (planBytes (σ .n) k rows)) room h) refl
-
 pub rows-count : (links marks : List ℕ) (count : ℕ) → length (rowsIn links marks count) ≡ length (statesIn links marks count)
 unfolding rowsIn statesIn planRows
 rows-count links marks count = length-map (planStates eqb codes (nextIn links) (unmarked marks count) 0) (rowOf eqb codes (nextIn links) (unmarked marks count) 0)
+
+-- an answer after situations were counted, with nothing written
+pub writes-none : (number situations states rounds : ℕ) (r : Answer) (plan : List ℕ)
+    → answerOf r ≡ record { number = number; sheet = 0; state = 0; situations = situations; states = states; rounds = rounds; length = 0 }
+    → Writes (counted number situations states rounds []) r plan plan
+unfolding counted
+writes-none number situations states rounds r plan a = record { answer = a; written = sym (front-none plan) }
+
+module _ (k : ℕ) (σ τ : Contract) (situations states rounds size : ℕ) (rows : List (List Move)) (r : Answer) (plan plan′ : List ℕ)
+    (is-size : size ≡ length (planBytes (σ .n) k rows)) (is-states : states ≡ length rows) where
+  pub emit-short : length plan < size
+      → answerOf r ≡ record { number = 13; sheet = 0; state = 0; situations = situations; states = states; rounds = rounds; length = 0 }
+      → Writes (emitted k σ τ (length plan) situations rounds rows) r plan plan
+  unfolding emitted
+  emit-short h a =
+      rw (lt-leb (length (planBytes (σ .n) k rows)) (length plan) (omega arith))
+      (writes-none 13 situations (length rows) rounds r plan
+      (a ∙ (λ i. record { number = 13; sheet = 0; state = 0; situations = situations; states = is-states i; rounds = rounds; length = 0 })))
+
+  pub emit-fits : size ≤ length plan
+      → answerOf r ≡ record { number = 0; sheet = 0; state = 0; situations = situations; states = states; rounds = rounds; length = size }
+      → plan′ ≡ front (planBytes (σ .n) k rows) plan → Writes (emitted k σ τ (length plan) situations rounds rows) r plan plan′
+  unfolding emitted counted
+  emit-fits h a w =
+      rw (le-leb (length (planBytes (σ .n) k rows)) (length plan) (omega arith))
+      (record {
+        answer = a ∙ (λ i. record { number = 0; sheet = 0; state = 0; situations = situations; states = is-states i; rounds = rounds; length = is-size i });
+        written = w;
+      })
