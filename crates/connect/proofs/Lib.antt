@@ -1,3 +1,4 @@
 pub mod Table
 pub mod Cleared
 pub mod Relating
+pub mod Connecting

@@ -1,6 +1,6 @@
 -- What follows the search, by cases: the start is marked or not, the plan fits or not.
 -- Assumes nothing.
-use mathlib.Core.Path.{_≡_, refl, sym, ap, _∙_}
+use mathlib.Core.Path.{_≡_, refl, sym, ap, subst⁻¹, _∙_}
 use mathlib.Core.Bool.{Bool, true, false, cond}
 use mathlib.Core.List.{List, [], _∷_, map}
 use Prim.Native.Nat.{ℕ, zero, suc, _+_, _≤_, _<_}
@@ -14,11 +14,12 @@ use Rattle.model.specs.Situation.{codes}
 use Rattle.model.specs.Search.{member}
 use Rattle.model.specs.Rounds.{Settled}
 use Rattle.model.specs.Plan.{Move, rowOf, planStates, planRows, planBytes}
+use Rattle.model.specs.Sheet.{contractIn}
 use Rattle.model.specs.Connect.{Outcome, counted, emitted}
 use Rattle.plan.specs.Front.{front}
 use Rattle.table.specs.Links.{nextIn, unmarked}
-use Rattle.rounds.specs.Settled.{settledIn, SettledDone}
-use Rattle.numbering.specs.Kept.{statesIn, rowsIn}
+use Rattle.rounds.specs.Settled.{settledIn, WorkTable, SettledDone}
+use Rattle.numbering.specs.Kept.{statesIn, rowsIn, WorkLists}
 use Rattle.plan.proofs.Front.{front-none}
 use Rattle.connect.specs.Answers.{answerOf, Writes}
 use Rattle.connect.specs.Related.{relatedIn}
@@ -55,11 +56,11 @@ module _ (k : ℕ) (σ τ : Contract) (keys links : List ℕ) (count room rounds
   start-stays : member eqb 0 (left .kept) ≡ eqb (getD marks′ 0 0) 0
   start-stays = ap (member eqb 0) (sym (done .kept-are)) ∙ start-unmarked marks′ count some
 
-  pub related-removed : (getD marks′ 0 0 ≡ 0 → ⊥) → relatedIn k σ τ keys links count room ≡ counted 12 count 0 rounds []
+  related-removed : (getD marks′ 0 0 ≡ 0 → ⊥) → relatedIn k σ τ keys links count room ≡ counted 12 count 0 rounds []
   unfolding relatedIn
   related-removed n = rw (start-stays, ne-eqb (getD marks′ 0 0) 0 n) (ap (λ (r : ℕ). counted 12 count 0 r []) (sym (done .rounds-are)))
 
-  pub related-kept : getD marks′ 0 0 ≡ 0 → relatedIn k σ τ keys links count room ≡ emitted k σ τ room count rounds (rowsIn links marks′ count)
+  related-kept : getD marks′ 0 0 ≡ 0 → relatedIn k σ τ keys links count room ≡ emitted k σ τ room count rounds (rowsIn links marks′ count)
   unfolding relatedIn rowsIn
   related-kept e =
       let r = sym (done .rounds-are) in
@@ -79,24 +80,56 @@ pub writes-none : (number situations states rounds : ℕ) (r : Answer) (plan : L
 unfolding counted
 writes-none number situations states rounds r plan a = record { answer = a; written = sym (front-none plan) }
 
-module _ (k : ℕ) (σ τ : Contract) (situations states rounds size : ℕ) (rows : List (List Move)) (r : Answer) (plan plan′ : List ℕ)
-    (is-size : size ≡ length (planBytes (σ .n) k rows)) (is-states : states ≡ length rows) where
+module _ (k : ℕ) (σ τ : Contract) (n situations states rounds size : ℕ) (rows : List (List Move)) (r : Answer) (plan : List ℕ)
+    (is-n : n ≡ σ .n) (size-is : size ≡ length (planBytes n k rows)) (is-states : states ≡ length rows) where
+  is-size : size ≡ length (planBytes (σ .n) k rows)
+  is-size = size-is ∙ ap (λ (n : ℕ). length (planBytes n k rows)) is-n
+
   pub emit-short : length plan < size
       → answerOf r ≡ record { number = 13; sheet = 0; state = 0; situations = situations; states = states; rounds = rounds; length = 0 }
       → Writes (emitted k σ τ (length plan) situations rounds rows) r plan plan
   unfolding emitted
   emit-short h a =
-      rw (lt-leb (length (planBytes (σ .n) k rows)) (length plan) (omega arith))
+      rw (lt-leb (length (planBytes (σ .n) k rows)) (length plan) (omega (arith, is-size)))
       (writes-none 13 situations (length rows) rounds r plan
       (a ∙ (λ i. record { number = 13; sheet = 0; state = 0; situations = situations; states = is-states i; rounds = rounds; length = 0 })))
 
-  pub emit-fits : size ≤ length plan
+  pub emit-fits : (plan′ : List ℕ) → size ≤ length plan
       → answerOf r ≡ record { number = 0; sheet = 0; state = 0; situations = situations; states = states; rounds = rounds; length = size }
-      → plan′ ≡ front (planBytes (σ .n) k rows) plan → Writes (emitted k σ τ (length plan) situations rounds rows) r plan plan′
+      → plan′ ≡ front (planBytes n k rows) plan → Writes (emitted k σ τ (length plan) situations rounds rows) r plan plan′
   unfolding emitted counted
-  emit-fits h a w =
-      rw (le-leb (length (planBytes (σ .n) k rows)) (length plan) (omega arith))
+  emit-fits plan′ h a w =
+      rw (le-leb (length (planBytes (σ .n) k rows)) (length plan) (omega (arith, is-size)))
       (record {
         answer = a ∙ (λ i. record { number = 0; sheet = 0; state = 0; situations = situations; states = is-states i; rounds = rounds; length = is-size i });
-        written = w;
+        written = w ∙ ap (λ (n : ℕ). front (planBytes n k rows) plan) is-n;
       })
+
+-- ---- what the rounds leave
+
+module _ (k : ℕ) (σ τ : Contract) (keys links : List ℕ) (count rounds : ℕ) (marks marks′ : List ℕ)
+    (done : SettledDone σ τ keys links count rounds marks marks′) (some : 0 < count) (r : Answer) (plan : List ℕ) where
+  pub relate-removed : (getD marks′ 0 0 ≡ 0 → ⊥)
+      → answerOf r ≡ record { number = 12; sheet = 0; state = 0; situations = count; states = 0; rounds = rounds; length = 0 }
+      → Writes (relatedIn k σ τ keys links count (length plan)) r plan plan
+  relate-removed n a =
+      subst⁻¹ (λ (o : Outcome). Writes o r plan plan) (related-removed k σ τ keys links count (length plan) rounds marks marks′ done some n)
+      (writes-none 12 count 0 rounds r plan a)
+
+  pub relate-kept : (plan′ : List ℕ) → getD marks′ 0 0 ≡ 0 → Writes (emitted k σ τ (length plan) count rounds (rowsIn links marks′ count)) r plan plan′
+      → Writes (relatedIn k σ τ keys links count (length plan)) r plan plan′
+  relate-kept plan′ e w =
+      subst⁻¹ (λ (o : Outcome). Writes o r plan plan′) (related-kept k σ τ keys links count (length plan) rounds marks marks′ done some e) w
+
+-- the lists are fit for numbering
+pub work-lists : (old new keys links marks marks′ : List ℕ) (count rounds : ℕ) → WorkTable old new keys links (length marks) count → 0 < count
+    → SettledDone (contractIn old) (contractIn new) keys links count rounds marks marks′ → getD marks′ 0 0 ≡ 0 → WorkLists count links marks′
+work-lists old new keys links marks marks′ count rounds t some done e =
+    record {
+      some-situation = some;
+      few = t .few;
+      links-room = t .links-room;
+      marks-room = omega (arith, t .marks-room, done .size);
+      links-within = t .links-within;
+      start-kept = e;
+    }

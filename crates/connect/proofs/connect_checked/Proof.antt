@@ -1,81 +1,79 @@
+-- `connect::connect_checked` meets its contract: the search is over the limit, or the lists hold what the rest asks for.
+-- Assumes nothing.
+use mathlib.Core.Path.{_≡_, sym, ap, _∙_}
+use native.Mathlib.Omega.{arith}
+use Rattle.connect.proofs.Connecting.{limit-room, limit-is, work-table, writes-over, writes-whole}
 use borrow.Author.Needs.{needs}
 use Rattle.connect.proofs.connect_checked.Statement.{statement}
 use Rattle.connect.proofs.connect_checked.Tie as tie
-use Rattle.connect.proofs.connect_checked.Reads as reads
-use Rattle.connect.proofs.connect_checked.Lts as lts
-use Rattle.connect.proofs.records.Reads as records-reads
-use Rattle.connect.proofs.refusal.Reads as refusal-reads
-use Rattle.connect.proofs.relate.Reads as relate-reads
-use Rattle.connect.proofs.smaller.Reads as smaller-reads
-use Rattle.reached.proofs.explore.Reads as explore-reads
 
--- src/lib.rt:109:25
 records-requires : tie.Need-records-requires
 records-requires c κs = search needs
 
--- src/lib.rt:109:9
 smaller-requires : tie.Need-smaller-requires
 smaller-requires c κs = search needs
 
--- src/lib.rt:110:11
 explore-requires : tie.Need-explore-requires
-explore-requires c κs = ?
+explore-requires c κs =
+    let b = c .before .before in
+    let s = b .before .before .before .before .before .before .before .before .before .before in
+    let room = limit-room _ _ _ _ _ _ _ (b .before .records .ensures) (b .smaller .ensures) in
+    (s .pre .0, s .pre .1, s .pre .2, room .few, room .keys-room, room .links-room)
 
--- src/lib.rt:111:24
 enum-told : tie.Need-enum-told
 enum-told c = search needs
 
--- src/lib.rt:111:24
 refusal-requires : tie.Need-refusal-requires
 refusal-requires c κs = search needs
 
--- src/lib.rt:112:22
 enum-known-count : tie.Need-enum-known-count
 enum-known-count c = search needs
 
--- src/lib.rt:112:32
 relate-requires : tie.Need-relate-requires
-relate-requires c κs = ?
+relate-requires c κs =
+    let e = c .before .before .before .before .before .before .before .before .before .before .before .before .before in
+    let b = e .before .before .before in
+    let s = b .before .before .before .before .before .before .before .before .before .before in
+    let room = limit-room _ _ _ _ _ _ _ (b .before .records .ensures) (b .smaller .ensures) in
+    work-table _ _ _ _ _ _ _ _ _ (e .explore .ensures) (s .pre .0) (s .pre .1) (s .pre .2) _ (c .before .before .before .before .before .before .before .count .given .1) _ _ _ ?
 
--- src/lib.rt:105:1
 same-length : tie.Need-same-length
 same-length c = search needs
 
--- src/lib.rt:105:1
 same-length-2 : tie.Need-same-length-2
 same-length-2 c = search needs
 
--- src/lib.rt:105:1
 returns : tie.Need-returns
-returns c = ?
+returns c =
+    let e = c .before .before .before .before .before .before .before in
+    let b = e .before .before .before in
+    writes-over _ _ _ _ _ _ _ _ _ (e .explore .ensures) (c .before .enum-told .given .1) _ (limit-is _ _ _ _ _ _ _ (b .before .records .ensures) (b .smaller .ensures)) _ _ (c .refusal .ensures)
 
--- src/lib.rt:105:1
 same-length-3 : tie.Need-same-length-3
 same-length-3 c = search needs
 
--- src/lib.rt:105:1
 same-length-4 : tie.Need-same-length-4
 same-length-4 c = search needs
 
--- src/lib.rt:105:1
 same-length-5 : tie.Need-same-length-5
 same-length-5 c = search needs
 
--- src/lib.rt:105:1
 same-length-6 : tie.Need-same-length-6
 same-length-6 c = search needs
 
--- src/lib.rt:105:1
 same-length-7 : tie.Need-same-length-7
 same-length-7 c = search needs
 
--- src/lib.rt:105:1
 same-length-8 : tie.Need-same-length-8
 same-length-8 c = search needs
 
--- src/lib.rt:105:1
 returns-2 : tie.Need-returns-2
-returns-2 c = ?
+returns-2 c =
+    let e = c .before .before .before .before .before .before .before .before .before .before .before .before .before .before .before .before .before .before .before .before .before .before in
+    let b = e .before .before .before in
+    let s = b .before .before .before .before .before .before .before .before .before .before in
+    writes-whole _ _ _ _ _ _ _ _ _ (e .explore .ensures) (s .pre .0) (s .pre .1) (s .pre .2) _ (c .before .before .before .before .before .before .before .before .before .before .before .before .before .before .before .before .count .given .1) _
+    (limit-is _ _ _ _ _ _ _ (b .before .records .ensures) (b .smaller .ensures)) _ _ _ (c .before .before .before .before .before .before .before .before .relate .ensures)
 
 pub connect-checked-spec : {M : Type 1} → statement M
 connect-checked-spec =

@@ -1,6 +1,6 @@
 -- `connect::emit` meets its contract: the plan's length decides between 13 and acceptance, and is known before a byte is written.
 -- Assumes nothing.
-use mathlib.Core.Path.{_≡_, sym, ap, _∙_}
+use mathlib.Core.Path.{refl, sym, _∙_}
 use native.Mathlib.Omega.{arith}
 use Rattle.connect.proofs.Relating.{rows-count, emit-short, emit-fits}
 use borrow.Author.Needs.{needs}
@@ -29,7 +29,7 @@ returns : tie.Need-returns
 returns c τ =
     let b = c .before .before in
     let numbered = b .before .before .before .before .before .before .number-states .ensures in
-    emit-short _ _ τ _ _ _ _ _ _ _ _ (b .plan-length .ensures _ _) (numbered .holds .in-order .free-is ∙ sym (rows-count _ _ _)) (omega arith) (c .with-counts .ensures)
+    emit-short _ _ τ _ _ _ _ _ _ _ _ refl (b .plan-length .ensures _ _) (numbered .holds .in-order .free-is ∙ sym (rows-count _ _ _)) (omega arith) (c .with-counts .ensures)
 
 name-count-requires : tie.Need-name-count-requires
 name-count-requires c κs = search needs
@@ -38,7 +38,7 @@ write-plan-requires : tie.Need-write-plan-requires
 write-plan-requires c κs =
     let b = c .before .before .before .before .before in
     let numbered = b .before .before .before .before .before .before .number-states .ensures in
-    (c .before .before .before .before .before .before .before .before .before .before .before .before .before .before .before .before .before .before .before .before .pre .1 .0, numbered .holds, omega (arith, b .plan-length .ensures (c .before .before .before .name-count .result) _))
+    (c .before .before .before .before .before .before .before .before .before .before .before .before .before .before .before .before .before .before .before .before .pre .1, numbered .holds, omega (arith, b .plan-length .ensures (c .before .before .before .name-count .result) (c .before .before .before .before .before .before .before .before .before .before .before .before .before .before .before .before .before .before .before .before .args .k)))
 
 with-counts-requires-2 : tie.Need-with-counts-requires-2
 with-counts-requires-2 c κs = search needs
@@ -53,7 +53,12 @@ same-length-5 : tie.Need-same-length-5
 same-length-5 c = search needs
 
 returns-2 : tie.Need-returns-2
-returns-2 c τ = ?
+returns-2 c τ =
+    let w = c .before .before .before in
+    let b = w .before .before .before .before .before .before in
+    let numbered = b .before .before .before .before .before .before .number-states .ensures in
+    emit-fits _ _ τ _ _ _ _ _ _ _ _ (w .before .before .before .before .name-count .ensures) (b .plan-length .ensures _ _) (numbered .holds .in-order .free-is ∙ sym (rows-count _ _ _)) _ (omega arith)
+    (c .with-counts2 .ensures) (w .write-plan .ensures)
 
 pub emit-spec : {M : Type 1} → statement M
 emit-spec =

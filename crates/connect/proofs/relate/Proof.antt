@@ -1,55 +1,55 @@
+-- `connect::relate` meets its contract: the rounds leave the start marked, or what follows is the plan of what stays unmarked.
+-- Assumes nothing.
+use mathlib.Core.Path.{_≡_, sym, ap, subst⁻¹, _∙_}
+use native.Mathlib.Omega.{arith}
+use Rattle.model.specs.Connect.{Outcome}
+use Rattle.connect.specs.Answers.{Writes}
+use Rattle.connect.proofs.Relating.{relate-removed, relate-kept, work-lists}
 use borrow.Author.Needs.{needs}
 use Rattle.connect.proofs.relate.Statement.{statement}
 use Rattle.connect.proofs.relate.Tie as tie
-use Rattle.connect.proofs.relate.Reads as reads
-use Rattle.connect.proofs.relate.Lts as lts
-use Rattle.connect.proofs.emit.Reads as emit-reads
-use Rattle.connect.proofs.with_counts.Reads as with-counts-reads
-use Rattle.rounds.proofs.settle.Reads as settle-reads
 
--- src/lib.rt:97:9
 settle-requires : tie.Need-settle-requires
 settle-requires c κs = search needs
 
--- src/lib.rt:98:8
 slice-read-if1 : tie.Need-slice-read-if1
 slice-read-if1 c = search needs
 
--- src/lib.rt:99:9
 with-counts-requires : tie.Need-with-counts-requires
 with-counts-requires c κs = search needs
 
--- src/lib.rt:99:9
 same-length : tie.Need-same-length
 same-length c = search needs
 
--- src/lib.rt:99:9
 returns : tie.Need-returns
-returns c = ?
+returns c =
+    let s = c .before .before .before .before .before .before .before .before .before .before .before .before .before .before .before in
+    relate-removed _ _ _ _ _ _ _ _ _ (c .before .before .before .before .before .settle .ensures) (s .pre .1) _ _ (c .before .if1 .taken) (c .with-counts .ensures)
 
--- src/lib.rt:101:5
 emit-requires : tie.Need-emit-requires
-emit-requires c κs = ?
+emit-requires c κs =
+    let b = c .before .before .before .before in
+    let s = b .before .before .before .before .before .before .before .before .before .before .before .before .before .before in
+    (s .pre .0 .old-sheet, work-lists _ _ _ _ _ _ _ _ (s .pre .0) (s .pre .1) (b .before .before .before .before .settle .ensures) (b .if1 .left), s .pre .2)
 
--- src/lib.rt:93:1
 same-length-2 : tie.Need-same-length-2
 same-length-2 c = search needs
 
--- src/lib.rt:93:1
 same-length-3 : tie.Need-same-length-3
 same-length-3 c = search needs
 
--- src/lib.rt:93:1
 same-length-4 : tie.Need-same-length-4
 same-length-4 c = search needs
 
--- src/lib.rt:93:1
 same-length-5 : tie.Need-same-length-5
 same-length-5 c = search needs
 
--- src/lib.rt:93:1
 returns-2 : tie.Need-returns-2
-returns-2 c = ?
+returns-2 c =
+    let e = c .before .before .before .before .before .before in
+    let b = e .before .before .before .before .before in
+    let s = b .before .before .before .before .before .before .before .before .before .before .before .before .before .before in
+    relate-kept _ _ _ _ _ _ _ _ _ (b .before .before .before .before .settle .ensures) (s .pre .1) _ _ _ (b .if1 .left) (e .emit .ensures _)
 
 pub relate-spec : {M : Type 1} → statement M
 relate-spec =
