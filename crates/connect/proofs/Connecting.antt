@@ -4,15 +4,14 @@
 use mathlib.Core.Path.{_≡_, refl, sym, ap, subst, subst⁻¹, _∙_}
 use mathlib.Core.List.{List, [], _∷_, List·Memᴰ, List·Memᴰ·head, List·Memᴰ·not-nil}
 use mathlib.Core.Logic.{_≢_}
-use Prim.Native.Nat.{ℕ, zero, suc, _+_, _*_, _/_, _≤_, _<_, min}
+use Prim.Native.Nat.{ℕ, zero, suc, _*_, _≤_, _<_, min}
 use native.Mathlib.Omega.{arith}
-use lib.ListN.{length, getD, replicate, getD-replicate, List·getD-eq-default, length-replicate}
+use lib.ListN.{length, getD, replicate}
 use Rattle.model.specs.Contract.{Contract}
-use Rattle.model.specs.Sheet.{Both, plain, contractIn}
+use Rattle.model.specs.Sheet.{plain, contractIn}
 use Rattle.model.specs.Situation.{Situation, start, alike, same, codes, next}
 use Rattle.model.specs.Search.{Reached, at-start, by-move, Search, searchFrom}
 use Rattle.model.specs.Connect.{Outcome, refused, related, found, connected, limitOf}
-use Rattle.model.specs.Weak.{Rank}
 use Rattle.model.proofs.Situation.{is-same}
 use Rattle.model.proofs.Search.{search-few, search-all}
 use Rattle.model.proofs.Weak.{is-reached, rank-reached}
@@ -160,17 +159,16 @@ module _ (k : ℕ) (old new : List ℕ) (limit : ℕ) (answer : Reach) (keys₀ 
         }
 
     -- what the rounds and the numbering ask of the lists
-    pub work-table : (marks order numbers : List ℕ) → LimitRoom limit (length keys) (length links) (length marks) (length order) (length numbers)
-        → WorkTable old new keys links (length marks) count × (0 < count) × Room count order numbers
+    pub work-table : (marks : ℕ) (order numbers : List ℕ) → LimitRoom limit (length keys₀) (length links₀) marks (length order) (length numbers)
+        → WorkTable old new keys links marks count × (0 < count) × Room count order numbers
     work-table marks order numbers room =
-        let few : count ≤ limit = omega (arith, counted-all, search-few same codes (next (alike k) σ τ) limit start) in
-        (
+        let few : count ≤ limit = omega (arith, counted-all, search-few same codes (next (alike k) σ τ) limit start) in (
           record {
             old-sheet = old-sheet;
             new-sheet = new-sheet;
             few = omega (arith, room .few);
-            keys-room = omega (arith, room .keys-room);
-            links-room = omega (arith, room .links-room);
+            keys-room = omega (arith, room .keys-room, explored .keys-length);
+            links-room = omega (arith, room .links-room, explored .links-length);
             marks-room = omega (arith, room .marks-room);
             links-within = subst (λ (n : ℕ). LinksWithin n links) counted-all (explored .links-within whole);
             keys-within = subst (λ (n : ℕ). KeysWithin σ τ n keys) counted-all (explored .keys-within whole);

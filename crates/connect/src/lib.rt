@@ -75,7 +75,17 @@ fn smaller(a: usize, b: usize) -> usize
 }
 
 // 13, or the plan written and accepted: `count` situations with their links, those that stay unmarked, the first among them.
-fn emit(k: u8, old: &[u8], links: &[u16], marks: &[u16], order: &mut [u16], numbers: &mut [u16], plan: &mut [u8], count: u16, rounds: u16) -> Answer
+fn emit(
+    k: u8,
+    old: &[u8],
+    links: &[u16],
+    marks: &[u16],
+    order: &mut [u16],
+    numbers: &mut [u16],
+    plan: &mut [u8],
+    count: u16,
+    rounds: u16,
+) -> Answer
     requires { ⌜ IsSheet (now old) × WorkLists count (now links) (now marks) × Room count (now order) (now numbers) ⌝ }
     ensures { λ r. ⌜ ((τ : Contract) → Writes (emitted k (contractIn (now (old .entry))) τ (length (now (plan .entry))) count rounds (rowsIn (now (links .entry)) (now (marks .entry)) count)) r (now (plan .entry)) (now (plan .exit))) ⌝ }
 {
@@ -85,12 +95,33 @@ fn emit(k: u8, old: &[u8], links: &[u16], marks: &[u16], order: &mut [u16], numb
         return with_counts(13, count, states, rounds, 0);
     }
     let n = sheet::name_count(old);
-    numbering::write::write_plan(links, marks, order, numbers, count as usize, states, n, k, plan);
+    numbering::write::write_plan(
+        links,
+        marks,
+        order,
+        numbers,
+        count as usize,
+        states,
+        n,
+        k,
+        plan,
+    );
     with_counts(0, count, states, rounds, length)
 }
 
 // 12, or what follows: the rounds, for `count` situations with their keys and links.
-fn relate(k: u8, old: &[u8], new: &[u8], keys: &[u64], links: &[u16], marks: &mut [u16], order: &mut [u16], numbers: &mut [u16], plan: &mut [u8], count: u16) -> Answer
+fn relate(
+    k: u8,
+    old: &[u8],
+    new: &[u8],
+    keys: &[u64],
+    links: &[u16],
+    marks: &mut [u16],
+    order: &mut [u16],
+    numbers: &mut [u16],
+    plan: &mut [u8],
+    count: u16,
+) -> Answer
     requires { ⌜ WorkTable (now old) (now new) (now keys) (now links) (length (now marks)) count × (0 < count) × Room count (now order) (now numbers) ⌝ }
     ensures { λ r. ⌜ Writes (relatedIn k (contractIn (now (old .entry))) (contractIn (now (new .entry))) (now (keys .entry)) (now (links .entry)) count (length (now (plan .entry)))) r (now (plan .entry)) (now (plan .exit)) ⌝ }
 {
@@ -102,11 +133,30 @@ fn relate(k: u8, old: &[u8], new: &[u8], keys: &[u64], links: &[u16], marks: &mu
 }
 
 // 11, or what follows: two service sheets over the same names, and k at most 3.
-fn connect_checked(k: u8, old: &[u8], new: &[u8], keys: &mut [u64], links: &mut [u16], marks: &mut [u16], order: &mut [u16], numbers: &mut [u16], plan: &mut [u8]) -> Answer
+fn connect_checked(
+    k: u8,
+    old: &[u8],
+    new: &[u8],
+    keys: &mut [u64],
+    links: &mut [u16],
+    marks: &mut [u16],
+    order: &mut [u16],
+    numbers: &mut [u16],
+    plan: &mut [u8],
+) -> Answer
     requires { ⌜ IsSheet (now old) × IsSheet (now new) × (k ≤ 3) ⌝ }
     ensures { λ r. ⌜ Writes (connected k (contractIn (now (old .entry))) (contractIn (now (new .entry))) (limitOf (recordsOf (length (now (keys .entry))) (length (now (links .entry))) (length (now (marks .entry))) (length (now (order .entry))) (length (now (numbers .entry))))) (length (now (plan .entry)))) r (now (plan .entry)) (now (plan .exit)) ⌝ }
 {
-    let limit = smaller(records(keys.len(), links.len(), marks.len(), order.len(), numbers.len()), 4096);
+    let limit = smaller(
+        records(
+            keys.len(),
+            links.len(),
+            marks.len(),
+            order.len(),
+            numbers.len(),
+        ),
+        4096,
+    );
     match reached::explore(old, new, k, limit, keys, links) {
         Reach::Over => refusal(11, 0, 0),
         Reach::Whole(count) => relate(k, old, new, keys, links, marks, order, numbers, plan, count),
@@ -115,7 +165,17 @@ fn connect_checked(k: u8, old: &[u8], new: &[u8], keys: &mut [u64], links: &mut 
 
 // Connects the contracts of two sheets with buffers of rank k. The lists are the work table: a record has a key, 42 links, a mark, a
 // place in the plan's order and a plan number.
-pub fn connect(k: u8, old: &[u8], new: &[u8], keys: &mut [u64], links: &mut [u16], marks: &mut [u16], order: &mut [u16], numbers: &mut [u16], plan: &mut [u8]) -> Answer
+pub fn connect(
+    k: u8,
+    old: &[u8],
+    new: &[u8],
+    keys: &mut [u64],
+    links: &mut [u16],
+    marks: &mut [u16],
+    order: &mut [u16],
+    numbers: &mut [u16],
+    plan: &mut [u8],
+) -> Answer
     ensures answered { λ r. ⌜ Writes (outcomeOf (recordsOf (length (now (keys .entry))) (length (now (links .entry))) (length (now (marks .entry))) (length (now (order .entry))) (length (now (numbers .entry)))) (length (now (plan .entry))) k (now (old .entry)) (now (new .entry))) r (now (plan .entry)) (now (plan .exit)) ⌝ }
     ensures keys { λ r. ⌜ now (keys .exit) ≡ afterwards (r .number) (now (keys .entry)) ⌝ }
     ensures links { λ r. ⌜ now (links .exit) ≡ afterwards (r .number) (now (links .entry)) ⌝ }

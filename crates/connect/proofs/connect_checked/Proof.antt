@@ -1,7 +1,5 @@
 -- `connect::connect_checked` meets its contract: the search is over the limit, or the lists hold what the rest asks for.
 -- Assumes nothing.
-use mathlib.Core.Path.{_≡_, sym, ap, _∙_}
-use native.Mathlib.Omega.{arith}
 use Rattle.connect.proofs.Connecting.{limit-room, limit-is, work-table, writes-over, writes-whole}
 use borrow.Author.Needs.{needs}
 use Rattle.connect.proofs.connect_checked.Statement.{statement}
@@ -35,7 +33,7 @@ relate-requires c κs =
     let b = e .before .before .before in
     let s = b .before .before .before .before .before .before .before .before .before .before in
     let room = limit-room _ _ _ _ _ _ _ (b .before .records .ensures) (b .smaller .ensures) in
-    work-table _ _ _ _ _ _ _ _ _ (e .explore .ensures) (s .pre .0) (s .pre .1) (s .pre .2) _ (c .before .before .before .before .before .before .before .count .given .1) _ _ _ ?
+    work-table _ _ _ _ _ _ _ _ _ (e .explore .ensures) (s .pre .0) (s .pre .1) (s .pre .2) _ (c .before .before .before .before .before .before .before .count .given .1) _ _ _ room
 
 same-length : tie.Need-same-length
 same-length c = search needs

@@ -1,9 +1,5 @@
 -- `connect::relate` meets its contract: the rounds leave the start marked, or what follows is the plan of what stays unmarked.
 -- Assumes nothing.
-use mathlib.Core.Path.{_≡_, sym, ap, subst⁻¹, _∙_}
-use native.Mathlib.Omega.{arith}
-use Rattle.model.specs.Connect.{Outcome}
-use Rattle.connect.specs.Answers.{Writes}
 use Rattle.connect.proofs.Relating.{relate-removed, relate-kept, work-lists}
 use borrow.Author.Needs.{needs}
 use Rattle.connect.proofs.relate.Statement.{statement}
