@@ -35,7 +35,7 @@ unfolding unionOf
 has-union masks j = has-union-from 0 masks j ∙ ap (λ (x : Bool). x || offersIn masks j) (has-none j)
 
 -- the bits of a mask from k on are those of the mask divided by 2 to the power k
-has-shift : (k mask j : ℕ) → has mask (k + j) ≡ has (mask / 2 ^ k) j
+pub has-shift : (k mask j : ℕ) → has mask (k + j) ≡ has (mask / 2 ^ k) j
 unfolding has
 has-shift k mask j = ap (λ (x : ℕ). eqb (x % 2) 1) (ap (λ (p : ℕ). mask / p) (pow-add 2 k j) ∙ sym (div-div-eq-div-mul mask (2 ^ k) (2 ^ j)))
 
@@ -171,7 +171,7 @@ bits-from (suc c) (suc n) mask =
     let none : (has mask 0 && leb (suc n) 0) ≡ false = ap (λ (t : Bool). has mask 0 && t) (leb·suc-zero n) ∙ and-false (has mask 0) in
     ap₂ _||_ none rest ∙ leb-same (2 ^ n) (mask / 2 % 2 ^ c) (2 ^ suc n) (mask % 2 ^ suc c) (λ l. omega (arith, low-bits mask c, pow-succ' 2 n)) (λ l. omega (arith, low-bits mask c, pow-succ' 2 n))
 
-any-halves : (p : ℕ → Bool) → any p actions ≡ (any p (upto 0 7) || any (λ i. p (7 + i)) (upto 0 7))
+pub any-halves : (p : ℕ → Bool) → any p actions ≡ (any p (upto 0 7) || any (λ i. p (7 + i)) (upto 0 7))
 unfolding any upto actions
 any-halves p = simp or-assoc
 
