@@ -1,0 +1,25 @@
+-- `connect::records` meets its contract: the smallest of five.
+-- Assumes nothing.
+use borrow.Author.Needs.{needs}
+use Rattle.connect.specs.Answers.{recordsOf}
+use Rattle.connect.proofs.records.Statement.{statement}
+use Rattle.connect.proofs.records.Tie as tie
+
+smaller-requires : tie.Need-smaller-requires
+smaller-requires c κs = search needs
+
+smaller-requires-2 : tie.Need-smaller-requires-2
+smaller-requires-2 c κs = search needs
+
+smaller-requires-3 : tie.Need-smaller-requires-3
+smaller-requires-3 c κs = search needs
+
+smaller-requires-4 : tie.Need-smaller-requires-4
+smaller-requires-4 c κs = search needs
+
+returns : tie.Need-returns
+unfolding recordsOf
+returns c = cc
+
+pub records-spec : {M : Type 1} → statement M
+records-spec = tie.close (tie.spec smaller-requires smaller-requires-2 smaller-requires-3 smaller-requires-4 returns)

@@ -1,0 +1,64 @@
+// Plans as bytes. Document 01, "Which pairs connect" and "The client check and the run".
+mod read;
+pub mod write;
+
+ghost use mathlib.Core.Path.{_≡_};
+ghost use Prim.Native.Nat.{_+_, _*_, _≤_};
+ghost use lib.ListN.{length};
+ghost use Rattle.model.specs.Plan.{held, readMoves, stepRow, stepOf};
+ghost use Rattle.plan.specs.Step.{steppedOf};
+
+// The answer of a step: number 0 and the next state, or a refusal's number and 0.
+#[repr(C)]
+pub struct Stepped {
+    pub number: u8,
+    pub state: u16,
+}
+
+// The step by a code in a row whose moves, size of them, stand from first on.
+fn step_row(plan: &[u8], first: usize, size: usize, code: u8) -> Stepped
+    requires { ⌜ first + 3 * size ≤ length (now plan) ⌝ }
+    ensures { λ r. ⌜ r ≡ steppedOf (stepRow (held (readMoves (now (plan .entry)) first size) code)) ⌝ }
+{
+    let mut left = size;
+    let mut at = first;
+    while 0 < left {
+        if plan[at] == code {
+            let state = read::word_at(plan, at + 1);
+            return Stepped {
+                number: 0,
+                state: state,
+            };
+        }
+        at = at + 3;
+        left = left - 1;
+    }
+    Stepped {
+        number: 16,
+        state: 0,
+    }
+}
+
+// The step by a code from a state of a plan. Bytes that are no plan give 14, a number that is no state of the plan
+// gives 15, a code that the state's row does not hold 16.
+pub fn step(plan: &[u8], state: u16, code: u8) -> Stepped
+    ensures { λ r. ⌜ r ≡ steppedOf (stepOf (now (plan .entry)) state code) ⌝ }
+{
+    if read::is_plan(plan) {
+        let end = plan.len();
+        if read::word_at(plan, end - 4) <= state {
+            return Stepped {
+                number: 15,
+                state: 0,
+            };
+        }
+        let index = read::dword_at(plan, end - 8) as usize;
+        let row = read::dword_at(plan, index + 4 * (state as usize)) as usize;
+        let size = plan[row] as usize;
+        return step_row(plan, row + 1, size, code);
+    }
+    Stepped {
+        number: 14,
+        state: 0,
+    }
+}

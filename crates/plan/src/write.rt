@@ -1,0 +1,71 @@
+// The bytes of a plan. Each writer puts them at the front of what is lent and leaves what stands behind as it was, so the
+// next writer is lent the rest.
+ghost use mathlib.Core.Path.{_≡_};
+ghost use mathlib.Core.List.{[], _∷_, _++_};
+ghost use Prim.Native.Nat.{_+_, _*_, _≤_};
+ghost use lib.ListN.{length};
+ghost use Rattle.model.specs.Bytes.{le16, le32};
+ghost use Rattle.model.specs.Plan.{moveBytes, rowBytes};
+ghost use Rattle.plan.specs.Front.{front, movesFrom};
+
+// A byte: a row's count of moves, n, k.
+pub fn put_byte(out: &mut [u8], x: u8)
+    requires { ⌜ 1 ≤ length (now out) ⌝ }
+    ensures { λ _. ⌜ now (out .exit) ≡ front (x ∷ []) (now (out .entry)) ⌝ }
+{
+    out[0] = x;
+}
+
+// A 16-bit number.
+pub fn put_word(out: &mut [u8], x: u16)
+    requires { ⌜ 2 ≤ length (now out) ⌝ }
+    ensures { λ _. ⌜ now (out .exit) ≡ front (le16 x) (now (out .entry)) ⌝ }
+{
+    out[0] = (x % 256) as u8;
+    out[1] = (x / 256 % 256) as u8;
+}
+
+// A 32-bit number: an entry of the index.
+pub fn put_dword(out: &mut [u8], x: u32)
+    requires { ⌜ 4 ≤ length (now out) ⌝ }
+    ensures { λ _. ⌜ now (out .exit) ≡ front (le32 x) (now (out .entry)) ⌝ }
+{
+    put_word(out, (x % 65536) as u16);
+    put_word(&mut out[2..], (x / 65536) as u16);
+}
+
+// A move: its code and its next state.
+pub fn put_move(out: &mut [u8], code: u8, to: u16)
+    requires { ⌜ 3 ≤ length (now out) ⌝ }
+    ensures { λ _. ⌜ now (out .exit) ≡ front (moveBytes (record { code = code; to = to } ∷ [])) (now (out .entry)) ⌝ }
+{
+    put_byte(out, code);
+    put_word(&mut out[1..], to);
+}
+
+// A row of size moves, whose codes and next states are lent as two lists: the length of the row.
+pub fn put_row(out: &mut [u8], size: usize, codes: &[u8], nexts: &[u16]) -> usize
+    requires { ⌜ (1 + 3 * size ≤ length (now out)) × (size ≤ 42) × (size ≤ length (now codes)) × (size ≤ length (now nexts)) ⌝ }
+    ensures { λ r. ⌜ (r ≡ 1 + 3 * size) × (now (out .exit) ≡ front (rowBytes (movesFrom (now (codes .entry)) (now (nexts .entry)) 0 size)) (now (out .entry))) ⌝ }
+{
+    put_byte(out, size as u8);
+    let mut i: usize = 0;
+    let mut at: usize = 1;
+    while i < size {
+        put_move(&mut out[at..], codes[i], nexts[i]);
+        i = i + 1;
+        at = at + 3;
+    }
+    at
+}
+
+// The trailer: the offset of the index, the state count, n and k.
+pub fn put_trailer(out: &mut [u8], index: u32, count: u16, n: u8, k: u8)
+    requires { ⌜ 8 ≤ length (now out) ⌝ }
+    ensures { λ _. ⌜ now (out .exit) ≡ front (le32 index ++ (le16 count ++ n ∷ k ∷ [])) (now (out .entry)) ⌝ }
+{
+    put_dword(out, index);
+    put_word(&mut out[4..], count);
+    put_byte(&mut out[6..], n);
+    put_byte(&mut out[7..], k);
+}
