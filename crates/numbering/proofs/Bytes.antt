@@ -81,7 +81,7 @@ module _ (links marks : List ℕ) (count : ℕ) where
         ap (indexBytes 0) (next-row p h) ∙ index-one 0 (first p) (rowIn links marks count (getD order p 0))
         ∙ ap (λ (n : ℕ). indexBytes 0 (first p) ++ le32 n) (omega arith)
 
-    pub length-more : (p : ℕ) → p < states
+    length-more : (p : ℕ) → p < states
         → length (rowsBytes (first (p + 1))) ≡ length (rowsBytes (first p)) + (1 + 3 * length (rowIn links marks count (getD order p 0)))
     length-more p h =
         omega (arith, ap length (rows-more p h), length-append (rowsBytes (first p)) (rowBytes (rowIn links marks count (getD order p 0))), length-row (rowIn links marks count (getD order p 0)))

@@ -10,7 +10,7 @@ use Rattle.model.specs.Plan.{Move, moveBytes, rowBytes}
 use Rattle.model.proofs.PlanBytes.{length-moves}
 use Rattle.table.specs.Links.{codeAt}
 use Rattle.plan.specs.Front.{front}
-use Rattle.plan.proofs.Front.{length-front, front-none, front-over}
+use Rattle.plan.proofs.Front.{length-front, front-over}
 use Rattle.plan.proofs.Written.{moves-append}
 use Rattle.numbering.specs.Kept.{keptLink, statesIn, rowIn, WorkLists}
 use Rattle.numbering.specs.Numbered.{Numbers, moveBy}
@@ -26,8 +26,8 @@ module _ (numbers : List ℕ) (slot link : ℕ) where
   move = moveBytes (moveBy numbers slot link)
 
   pub no-move : (xs : List ℕ) → link ≡ 0 → (0 ≡ length move) × (xs ≡ front move xs)
-  unfolding moveBy moveBytes
-  no-move xs e = rw e (refl, sym (front-none xs))
+  unfolding moveBy moveBytes front
+  no-move xs e = rw e (refl, refl)
 
   some-move : (link ≡ 0 → ⊥) → moveBy numbers slot link ≡ record { code = codeAt slot; to = getD numbers (link - 1) 0 - 1 } ∷ []
   unfolding moveBy

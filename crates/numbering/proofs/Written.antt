@@ -1,14 +1,14 @@
 -- One part is written behind the other: at the front of what was lent stands what is written so far, and what is behind it is
 -- as it was.
 -- Assumes nothing.
-use mathlib.Core.Path.{_≡_, refl, sym, ap, _∙_}
+use mathlib.Core.Path.{_≡_, refl, ap, _∙_}
 use mathlib.Core.List.{List, [], _++_}
 use Prim.Native.Nat.{ℕ, _+_, _-_, _≤_}
 use native.Mathlib.Omega.{arith}
 use lib.ListN.{length, length-append, length-take, length-drop}
 use borrow.Rule.Slice.PartMut.{putMid, midOf}
 use Rattle.plan.specs.Front.{front}
-use Rattle.plan.proofs.Front.{length-front, front-none, front-over, front-then}
+use Rattle.plan.proofs.Front.{length-front, front-again, front-then}
 
 -- w is written at the front of `out`, which was `first`, up to the place `at`
 pub record Written (w first out : List ℕ) (at : ℕ) : Type 0 where
@@ -16,11 +16,11 @@ pub record Written (w first out : List ℕ) (at : ℕ) : Type 0 where
   pub written : out ≡ front w first
 
 pub written-none : (xs : List ℕ) → Written [] xs xs 0
-written-none xs = record { place = refl; written = sym (front-none xs) }
+unfolding front
+written-none xs = record { place = refl; written = refl }
 
 pub written-over : (w xs : List ℕ) {ys : List ℕ} → ys ≡ front w xs → Written w ys ys (length w)
-written-over w xs e =
-    record { place = refl; written = e ∙ sym (front-over w w xs (omega arith)) ∙ ap (front w) (sym e) }
+written-over w xs {ys} e = record { place = refl; written = front-again w xs ys e }
 
 pub written-length : {w first out : List ℕ} {at : ℕ} → Written w first out at → length w ≤ length first → length out ≡ length first
 written-length {w} {first} is h = ap length (is .written) ∙ length-front w first h
