@@ -1,0 +1,139 @@
+//! Plans: rows as they are found, writing a plan, and stepping one (document 01, "Which pairs connect").
+
+use crate::MOST_SITUATIONS;
+
+const TRAILER: usize = 8;
+const MOST_MOVES: usize = 42;
+
+/// Rows of moves in the plan's own form: if no situation is removed they are the plan's rows.
+pub struct Rows {
+    bytes: Vec<u8>,
+    end: usize,
+    starts: Vec<u32>,
+}
+
+impl Rows {
+    pub fn new() -> Rows {
+        Rows {
+            bytes: vec![0; MOST_SITUATIONS * (1 + 3 * MOST_MOVES) + 1],
+            end: 0,
+            starts: Vec::with_capacity(MOST_SITUATIONS),
+        }
+    }
+
+    pub fn clear(&mut self) {
+        self.end = 0;
+        self.starts.clear();
+    }
+
+    /// Begins the next row, which is to have so many moves.
+    #[inline]
+    pub fn open(&mut self, moves: u32) {
+        self.starts.push(self.end as u32);
+        self.bytes[self.end] = moves as u8;
+        self.end += 1;
+    }
+
+    #[inline]
+    pub fn push(&mut self, code: u32, next: u16) {
+        let four = (code | u32::from(next) << 8).to_le_bytes();
+        self.bytes[self.end..self.end + 4].copy_from_slice(&four);
+        self.end += 3;
+    }
+
+    /// The moves of a row: code and next state.
+    #[inline]
+    pub fn moves(&self, row: usize) -> impl Iterator<Item = (u8, u16)> + '_ {
+        let start = self.starts[row] as usize;
+        let length = 3 * self.bytes[start] as usize;
+        moves_in(&self.bytes[start + 1..start + 1 + length])
+    }
+
+    /// The length of the plan with exactly these rows.
+    pub fn length(&self) -> usize {
+        self.end + 4 * self.starts.len() + TRAILER
+    }
+
+    /// Writes the plan with exactly these rows and gives its length.
+    pub fn write(&self, n: u8, k: u8, plan: &mut [u8]) -> usize {
+        plan[..self.end].copy_from_slice(&self.bytes[..self.end]);
+        finish(plan, self.end, &self.starts, n, k)
+    }
+}
+
+/// Writes the index and the trailer behind the rows and gives the plan's length.
+pub fn finish(plan: &mut [u8], rows: usize, starts: &[u32], n: u8, k: u8) -> usize {
+    let behind = rows + 4 * starts.len();
+    for (entry, start) in plan[rows..behind].chunks_exact_mut(4).zip(starts) {
+        entry.copy_from_slice(&start.to_le_bytes());
+    }
+    let trailer = &mut plan[behind..behind + TRAILER];
+    trailer[..4].copy_from_slice(&(rows as u32).to_le_bytes());
+    trailer[4..6].copy_from_slice(&(starts.len() as u16).to_le_bytes());
+    trailer[6..].copy_from_slice(&[n, k]);
+    behind + TRAILER
+}
+
+#[inline]
+fn moves_in(row: &[u8]) -> impl Iterator<Item = (u8, u16)> + '_ {
+    row.chunks_exact(3).map(|made| (made[0], u16::from_le_bytes([made[1], made[2]])))
+}
+
+/// Steps a plan: 0 and the next state, or refusal 14, 15 or 16 and 0.
+pub fn step(plan: &[u8], state: u16, code: u8) -> (u8, u16) {
+    let Some((rows, index)) = read(plan) else {
+        return (14, 0);
+    };
+    if state as usize >= index.len() / 4 {
+        return (15, 0);
+    }
+    let start = dword(&index[4 * state as usize..]) as usize;
+    let row = &rows[start + 1..start + 1 + 3 * rows[start] as usize];
+    let held = moves_in(row).find(|made| made.0 == code);
+    held.map_or((16, 0), |made| (0, made.1))
+}
+
+/// The rows and the index of a plan, or nothing if it breaks the layout.
+fn read(plan: &[u8]) -> Option<(&[u8], &[u8])> {
+    let (body, trailer) = plan.split_at_checked(plan.len().checked_sub(TRAILER)?)?;
+    let rows = dword(trailer) as usize;
+    let count = u16::from_le_bytes([trailer[4], trailer[5]]);
+    let (n, k) = (trailer[6], trailer[7]);
+    let sized = (1..=MOST_SITUATIONS).contains(&count.into()) && n <= 7 && k <= 3;
+    if !sized || rows + 4 * count as usize != body.len() {
+        return None;
+    }
+    let (rows, index) = body.split_at(rows);
+    let named = codes(n);
+    let mut at = 0;
+    for entry in index.chunks_exact(4) {
+        if dword(entry) as usize != at {
+            return None;
+        }
+        let moves = *rows.get(at)? as usize;
+        if moves > MOST_MOVES {
+            return None;
+        }
+        let end = at + 1 + 3 * moves;
+        let mut left = named;
+        for (code, next) in moves_in(rows.get(at + 1..end)?) {
+            if code > 63 || left >> code & 1 == 0 || next >= count {
+                return None;
+            }
+            left &= u64::MAX << code << 1;
+        }
+        at = end;
+    }
+    (at == rows.len()).then_some((rows, index))
+}
+
+/// The codes with a name below n.
+fn codes(n: u8) -> u64 {
+    let names = (1u64 << n) - 1;
+    let actions = names | names << 7;
+    actions | actions << 16 | actions << 32
+}
+
+fn dword(bytes: &[u8]) -> u32 {
+    u32::from_le_bytes([bytes[0], bytes[1], bytes[2], bytes[3]])
+}
