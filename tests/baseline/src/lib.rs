@@ -8,6 +8,7 @@ mod connect;
 mod index;
 mod numbering;
 mod plan;
+mod reach;
 mod rounds;
 mod sheet;
 mod situation;

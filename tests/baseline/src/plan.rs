@@ -1,44 +1,62 @@
 //! Plans: rows as they are found, writing a plan, and stepping one (document 01, "Which pairs connect").
 
+use crate::index::zeros;
 use crate::MOST_SITUATIONS;
 
 const TRAILER: usize = 8;
 const MOST_MOVES: usize = 42;
 
+/// The bytes of 4,096 rows of 42 moves, and one for a move that is written as four.
+const MOST_BYTES: usize = MOST_SITUATIONS * (1 + 3 * MOST_MOVES) + 1;
+
 /// Rows of moves in the plan's own form: if no situation is removed they are the plan's rows.
 pub struct Rows {
-    bytes: Vec<u8>,
+    bytes: Box<[u8; MOST_BYTES]>,
+    starts: Box<[u32; MOST_SITUATIONS]>,
     end: usize,
-    starts: Vec<u32>,
+    count: usize,
 }
 
-impl Rows {
-    pub fn new() -> Rows {
-        Rows {
-            bytes: vec![0; MOST_SITUATIONS * (1 + 3 * MOST_MOVES) + 1],
-            end: 0,
-            starts: Vec::with_capacity(MOST_SITUATIONS),
-        }
-    }
+/// Rows at work, apart from their memory, so that the loops have them in registers.
+pub struct Open<'a> {
+    bytes: &'a mut [u8; MOST_BYTES],
+    starts: &'a mut [u32; MOST_SITUATIONS],
+    end: usize,
+}
 
-    pub fn clear(&mut self) {
-        self.end = 0;
-        self.starts.clear();
-    }
-
-    /// Begins the next row, which is to have so many moves.
-    #[inline]
-    pub fn open(&mut self, moves: u32) {
-        self.starts.push(self.end as u32);
+impl Open<'_> {
+    /// Begins a row, which is to have so many moves.
+    #[inline(always)]
+    pub fn begin(&mut self, row: usize, moves: u32) {
+        self.starts[row] = self.end as u32;
         self.bytes[self.end] = moves as u8;
         self.end += 1;
     }
 
-    #[inline]
-    pub fn push(&mut self, code: u32, next: u16) {
-        let four = (code | u32::from(next) << 8).to_le_bytes();
+    #[inline(always)]
+    pub fn push(&mut self, code: u32, next: usize) {
+        let four = (code | (next as u32) << 8).to_le_bytes();
         self.bytes[self.end..self.end + 4].copy_from_slice(&four);
         self.end += 3;
+    }
+
+    pub fn end(&self) -> usize {
+        self.end
+    }
+}
+
+impl Rows {
+    pub fn new() -> Rows {
+        Rows { bytes: zeros(), starts: zeros(), end: 0, count: 0 }
+    }
+
+    pub fn open(&mut self) -> Open<'_> {
+        Open { bytes: &mut self.bytes, starts: &mut self.starts, end: 0 }
+    }
+
+    /// Says how many rows were written and where they end.
+    pub fn close(&mut self, count: usize, end: usize) {
+        (self.count, self.end) = (count, end);
     }
 
     /// The moves of a row: code and next state.
@@ -51,13 +69,13 @@ impl Rows {
 
     /// The length of the plan with exactly these rows.
     pub fn length(&self) -> usize {
-        self.end + 4 * self.starts.len() + TRAILER
+        self.end + 4 * self.count + TRAILER
     }
 
     /// Writes the plan with exactly these rows and gives its length.
     pub fn write(&self, n: u8, k: u8, plan: &mut [u8]) -> usize {
         plan[..self.end].copy_from_slice(&self.bytes[..self.end]);
-        finish(plan, self.end, &self.starts, n, k)
+        finish(plan, self.end, &self.starts[..self.count], n, k)
     }
 }
 

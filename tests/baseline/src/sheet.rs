@@ -18,8 +18,11 @@ const MOST_STATES: usize = 64;
 const MOST_NAMES: u8 = 7;
 const MOST_READY: u8 = 8;
 
-/// A state: its ready sets, what it offers, and the successors by action. Entries past the number of ready
-/// sets, and successors of what is not offered, mean nothing.
+/// A ready set that is none: nothing has its last bit.
+const NONE: u16 = u16::MAX;
+
+/// A state: its ready sets, of which those past their number are NONE, what it offers, and the successors by
+/// action. Successors of what is not offered mean nothing.
 #[derive(Clone, Copy, Default)]
 pub struct State {
     ready: [u16; MOST_READY as usize],
@@ -29,8 +32,15 @@ pub struct State {
 }
 
 impl State {
+    #[inline]
     pub fn ready(&self) -> &[u16] {
         &self.ready[..self.sets as usize & 15]
+    }
+
+    /// Whether some ready set lies within these actions. All eight are compared, at once.
+    #[inline]
+    pub fn some_within(&self, actions: u16) -> bool {
+        self.ready.iter().fold(false, |found, ready| found | (ready & !actions == 0))
     }
 }
 
@@ -106,6 +116,7 @@ fn read_row(row: &mut State, rows: &[u8], at: usize, unwanted: u16, count: u8) -
     let behind = at + 1 + 2 * sets as usize;
     let masks = rows.get(at + 1..behind).ok_or(4)?;
     let (mut least, mut union) = (0, 0);
+    row.ready = [NONE; MOST_READY as usize];
     for (ready, mask) in row.ready.iter_mut().zip(masks.chunks_exact(2)) {
         let mask = word(mask[0], mask[1]);
         if u32::from(mask) < least {
