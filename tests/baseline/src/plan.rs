@@ -72,24 +72,20 @@ impl Rows {
         self.end + 4 * self.count + TRAILER
     }
 
-    /// Writes the plan with exactly these rows and gives its length.
+    /// Writes the plan with exactly these rows, for which there must be room, and gives its length.
     pub fn write(&self, n: u8, k: u8, plan: &mut [u8]) -> usize {
-        plan[..self.end].copy_from_slice(&self.bytes[..self.end]);
-        finish(plan, self.end, &self.starts[..self.count], n, k)
+        let plan = &mut plan[..self.length()];
+        let (rows, behind) = plan.split_at_mut(self.end);
+        let (index, trailer) = behind.split_at_mut(4 * self.count);
+        rows.copy_from_slice(&self.bytes[..self.end]);
+        for (entry, start) in index.chunks_exact_mut(4).zip(self.starts.iter()) {
+            entry.copy_from_slice(&start.to_le_bytes());
+        }
+        trailer[..4].copy_from_slice(&(self.end as u32).to_le_bytes());
+        trailer[4..6].copy_from_slice(&(self.count as u16).to_le_bytes());
+        trailer[6..].copy_from_slice(&[n, k]);
+        self.length()
     }
-}
-
-/// Writes the index and the trailer behind the rows and gives the plan's length.
-pub fn finish(plan: &mut [u8], rows: usize, starts: &[u32], n: u8, k: u8) -> usize {
-    let behind = rows + 4 * starts.len();
-    for (entry, start) in plan[rows..behind].chunks_exact_mut(4).zip(starts) {
-        entry.copy_from_slice(&start.to_le_bytes());
-    }
-    let trailer = &mut plan[behind..behind + TRAILER];
-    trailer[..4].copy_from_slice(&(rows as u32).to_le_bytes());
-    trailer[4..6].copy_from_slice(&(starts.len() as u16).to_le_bytes());
-    trailer[6..].copy_from_slice(&[n, k]);
-    behind + TRAILER
 }
 
 #[inline]
