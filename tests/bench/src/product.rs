@@ -29,7 +29,10 @@ extern "C" {
     ) -> ForeignAnswer;
 }
 
-/// The work table: a number of each list makes a record.
+/// A record has so many links, one per code.
+const LINKS: usize = 42;
+
+/// The work table: a record has a key, its links, a mark, a place in the plan's order and a plan number.
 pub struct Product {
     keys: Vec<u64>,
     links: Vec<u16>,
@@ -42,18 +45,19 @@ impl Product {
     /// A table of which up to so many records can be lent.
     pub fn new(records: usize) -> Product {
         let list = vec![0; records];
-        Product { keys: vec![0; records], links: list.clone(), marks: list.clone(), order: list.clone(), numbers: list }
+        Product { keys: vec![0; records], links: vec![0; LINKS * records], marks: list.clone(), order: list.clone(), numbers: list }
     }
 
-    fn lists(&mut self) -> [&mut [u16]; 4] {
-        [&mut self.links, &mut self.marks, &mut self.order, &mut self.numbers]
+    /// The narrow lists, each with how many numbers of it make a record.
+    fn lists(&mut self) -> [(usize, &mut [u16]); 4] {
+        [(LINKS, &mut self.links), (1, &mut self.marks), (1, &mut self.order), (1, &mut self.numbers)]
     }
 
     /// Whether the first records hold nothing but this byte.
     fn holds(&mut self, records: usize, byte: u8) -> bool {
         let (wide, narrow) = (u64::from_ne_bytes([byte; 8]), u16::from_ne_bytes([byte; 2]));
         self.keys[..records].iter().all(|key| *key == wide)
-            && self.lists().iter().all(|list| list[..records].iter().all(|number| *number == narrow))
+            && self.lists().iter().all(|(size, list)| list[..size * records].iter().all(|number| *number == narrow))
     }
 }
 
@@ -61,7 +65,7 @@ impl Connector for Product {
     fn connect(&mut self, call: &Call, plan: &mut [u8]) -> Answer {
         let records = call.records;
         let keys = &mut self.keys[..records];
-        let links = &mut self.links[..records];
+        let links = &mut self.links[..LINKS * records];
         let marks = &mut self.marks[..records];
         let order = &mut self.order[..records];
         let numbers = &mut self.numbers[..records];
@@ -73,7 +77,7 @@ impl Connector for Product {
                 call.old.as_ptr(), call.old.len(),
                 call.new.as_ptr(), call.new.len(),
                 keys.as_mut_ptr(), records,
-                links.as_mut_ptr(), records,
+                links.as_mut_ptr(), LINKS * records,
                 marks.as_mut_ptr(), records,
                 order.as_mut_ptr(), records,
                 numbers.as_mut_ptr(), records,
@@ -95,7 +99,7 @@ impl Connector for Product {
     fn tried(&mut self, call: &Call, plan: &mut [u8]) -> (Answer, bool) {
         const FILLING: u8 = 0xA5;
         self.keys.fill(u64::from_ne_bytes([FILLING; 8]));
-        for list in self.lists() {
+        for (_, list) in self.lists() {
             list.fill(u16::from_ne_bytes([FILLING; 2]));
         }
         let answer = self.connect(call, plan);
