@@ -26,7 +26,10 @@ KINDS = {
 }
 
 #: The kinds that a test program runs, and its crate.
-STORED = {"sheets": Path("crates/sheet_run")}
+STORED = {
+    "sheets": Path("crates/sheet_run"),
+    "steps": Path("crates/step_run"),
+}
 
 
 def files(kind):
