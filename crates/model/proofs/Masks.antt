@@ -50,11 +50,11 @@ unfoldable pub agree : Bool → Bool → Bool
 agree true t = t
 agree false t = not t
 
-has-zero : (a : ℕ) → has a 0 ≡ eqb (a % 2) 1
+pub has-zero : (a : ℕ) → has a 0 ≡ eqb (a % 2) 1
 unfolding has
 has-zero a = let e : a / 1 ≡ a = omega arith in rw e
 
-has-suc : (a j : ℕ) → has a (suc j) ≡ has (a / 2) j
+pub has-suc : (a j : ℕ) → has a (suc j) ≡ has (a / 2) j
 unfolding has
 has-suc a j = let e : 1 + j ≡ suc j = omega arith in rw (← e, ← shr-shr a 1 j)
 

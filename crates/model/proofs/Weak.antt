@@ -19,7 +19,8 @@ use Rattle.model.proofs.Rounds.{Step, Closed, settled-closed, settled-l
 use Rattle.model.proofs.Search.{search-inv, search-all}
 use Rattle.model.proofs.Situation.{is-same, code-straight, code-client, code-service, code-elim, kind-straight, kind-client, kind-service, behind, next-elim, next-intro}
 use Rattle.model.proofs.Test.{PassesAt, is-test}
-use Rattle.model.proofs.Rank.{rank-start, rank-after, client-rank, client-back, service-rank, service-back}
+use Rattle.model.proofs.Moves.{rank-kept}
+use Rattle.model.proofs.Rank.{rank-start, client-rank, client-back, service-rank, service-back}
 
 -- a state offers what its ready sets have
 pub offers-of : (p : State) (S j : ℕ) → List·Memᴰ S (p .ready) → T (has S j) → T (offers p j)
@@ -160,7 +161,7 @@ module _ (limits : List ℕ) (old new : Contract) where
   rank-next : (s t : Situation) (c : ℕ) → List·Memᴰ c codes → nx s c ≡ some t → Rank limits (s .buffer) → Rank limits (t .buffer)
   rank-next s t c m e r =
       let y = next-elim limits old new s c (kindOf c) t refl e .1 in
-      subst (λ (t : Situation). Rank limits (t .buffer)) (y .2) (rank-after limits (s .buffer) (y .0) (kindOf c) r (y .1))
+      subst (λ (t : Situation). Rank limits (t .buffer)) (y .2) (rank-kept limits (s .buffer) (y .0) (kindOf c) (y .1) r)
 
   pub rank-reached : {s : Situation} → Reached codes nx start s → Rank limits (s .buffer)
   rank-reached (at-start e) = subst⁻¹ (λ (t : Situation). Rank limits (t .buffer)) e (rank-start limits)

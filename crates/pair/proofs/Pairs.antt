@@ -11,41 +11,14 @@ use Rattle.model.specs.Contract.{Contract}
 use Rattle.model.proofs.Sheet.{both-elim}
 use Rattle.sheet.specs.Whole.{IsSheet}
 use Rattle.sheet.specs.Answers.{checkedOf}
+use Rattle.sheet.proofs.Answers.{fault-refusal}
 use Rattle.sheet.specs.declared.Checked.{Checked}
 use Rattle.sheet.specs.declared.Checked.the-variants as C
 use Rattle.pair.specs.Pairs.{pairOf}
 use Rattle.pair.specs.declared.Pair.{Pair}
 use Rattle.pair.specs.declared.Pair.the-variants as P
 
--- ---- what the check of one sheet says of its reading
-
-pub whole-sheet : (b : List ℕ) (r : Checked) → r ≡ checkedOf (readSheet b) → r ≡ C.Whole → IsSheet b
-unfolding checkedOf
-whole-sheet b r e w = go (readSheet b) refl
-  where
-    go : (x : Reading Fault Sheet) → readSheet b ≡ x → IsSheet b
-    go (good s) q = (s, q)
-    go (refusal f) q =
-        let z : C.Whole ≡ C.Fault (f .number) (f .state) (f .offset) = sym w ∙ e ∙ ap checkedOf q in
-        let n : _≡_ {A = ℕ} 0 1 = cc in
-        absurd (omega arith)
-
-fault-sheet : (b : List ℕ) (number state offset : ℕ) (r : Checked) → r ≡ checkedOf (readSheet b) → r ≡ C.Fault number state offset
-    → readSheet b ≡ refusal (record { number = number; state = state; offset = offset })
-unfolding checkedOf
-fault-sheet b number state offset r e w = go (readSheet b) refl
-  where
-    go : (x : Reading Fault Sheet) → readSheet b ≡ x → readSheet b ≡ refusal (record { number = number; state = state; offset = offset })
-    go (good s) q =
-        let z : C.Whole ≡ C.Fault number state offset = sym (ap checkedOf q) ∙ sym e ∙ w in
-        let n : _≡_ {A = ℕ} 0 1 = cc in
-        absurd (omega arith)
-    go (refusal f) q =
-        let z : C.Fault (f .number) (f .state) (f .offset) ≡ C.Fault number state offset = sym (ap checkedOf q) ∙ sym e ∙ w in
-        let p : f .number ≡ number = cc in
-        let s : f .state ≡ state = cc in
-        let o : f .offset ≡ offset = cc in
-        q ∙ (λ i. refusal (record { number = p i; state = s i; offset = o i }))
+-- ---- what a sheet that is read holds
 
 contract-is : (b : List ℕ) (s : IsSheet b) → contractIn b ≡ s .0 .contract
 unfolding contractIn sheetOf
@@ -67,12 +40,12 @@ module _ (role₁ role₂ : ℕ) (b₁ b₂ : List ℕ) where
   pub first-refused : (number state offset : ℕ) (r : Checked) → r ≡ checkedOf (readSheet b₁) → r ≡ C.Fault number state offset
       → P.Refused number 1 state offset ≡ read
   unfolding readBoth inPlace then pairOf
-  first-refused number state offset r e w = rw (fault-sheet b₁ number state offset r e w) refl
+  first-refused number state offset r e w = rw (fault-refusal (readSheet b₁) number state offset (sym e ∙ w)) refl
 
   pub second-refused : IsSheet b₁ → (number state offset : ℕ) (r : Checked) → r ≡ checkedOf (readSheet b₂) → r ≡ C.Fault number state offset
       → P.Refused number 2 state offset ≡ read
   unfolding readBoth inPlace then pairOf
-  second-refused s₁ number state offset r e w = rw (s₁ .1, fault-sheet b₂ number state offset r e w) refl
+  second-refused s₁ number state offset r e w = rw (s₁ .1, fault-refusal (readSheet b₂) number state offset (sym e ∙ w)) refl
 
   module _ (s₁ : IsSheet b₁) (s₂ : IsSheet b₂) where
     abbrev places : Reading Refusal Both

@@ -15,6 +15,15 @@ passed e h = sym e ∙ not-false _ h
 pub failed : {r g : Bool} → r ≡ g → not r ≡ true → g ≡ false
 failed e h = sym e ∙ not-true _ h
 
+-- two tests that were both passed
+pub and-left : (s t : Bool) → (s && t) ≡ true → s ≡ true
+and-left true t e = refl
+and-left false t e = e
+
+pub and-right : (s t : Bool) → (s && t) ≡ true → t ≡ true
+and-right true t e = e
+and-right false t e = absurd (let z : _≡_ {A = ℕ} 0 1 = cc in omega arith)
+
 pub is-some-cond : {A : Type 0} (t : Bool) (o : Option A) → isSome (cond t o none) ≡ (t && isSome o)
 unfolding isSome
 is-some-cond true o = refl

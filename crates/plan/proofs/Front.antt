@@ -35,6 +35,10 @@ front-over v w xs h =
     let e : length v + (length w - length v) ≡ length w = omega arith in
     ap (λ (ys : List ℕ). w ++ ys) (rw e at (drop-more (length v) (length w - length v) (front v xs) xs (drop-at v (drop (length v) xs) (length v) refl)))
 
+-- what stands at the front stands there
+pub front-again : (v xs ys : List ℕ) → ys ≡ front v xs → ys ≡ front v ys
+front-again v xs ys e = e ∙ sym (front-over v v xs (omega arith)) ∙ ap (front v) (sym e)
+
 -- v stands at the front, and w was written into the rest: v ++ w stands at the front
 pub front-then : (at : ℕ) (xs ys v w zs : List ℕ) → ys ≡ front v xs → at ≡ length v → at + length w ≤ length xs
     → zs ≡ front w (midOf at (length ys - at) ys) → putMid at (length ys - at) ys zs ≡ front (v ++ w) xs

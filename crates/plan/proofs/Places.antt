@@ -1,6 +1,6 @@
 -- The rows of a plan, place by place: what each test of `readRows` decides, and where row p stands in bytes that pass.
 -- Assumes nothing.
-use mathlib.Core.Path.{_≡_, refl, sym, ap, _∙_}
+use mathlib.Core.Path.{_≡_, sym, ap, _∙_}
 use mathlib.Core.Bool.{Bool, true, false, cond, _&&_, and-true}
 use mathlib.Core.List.{List, []}
 use mathlib.Core.Option.{some}
@@ -12,7 +12,7 @@ use borrow.Author.Tests.{le-leb, lt-leb, eq-eqb, ne-eqb, eqb-true, leb-true}
 use Rattle.model.specs.Bytes.{byte, dword}
 use Rattle.model.specs.Plan.{goodRow, readMoves, readRows}
 use Rattle.plan.specs.Layout.{isSome, goodPlace}
-use Rattle.plan.proofs.Answers.{is-some-cond, is-some-map}
+use Rattle.plan.proofs.Answers.{and-left, and-right, is-some-cond, is-some-map}
 
 module _ (b : List ℕ) (index count n : ℕ) where
   module _ (p i : ℕ) where
@@ -28,17 +28,14 @@ module _ (b : List ℕ) (index count n : ℕ) where
     unfolding goodPlace
     place-row h l = simp (eq-eqb _ _ h, le-leb _ _ l)
 
-    both-true : (s t u : Bool) → (s && t && u) ≡ true → (s ≡ true) × (t ≡ true)
-    both-true true true u e = (refl, refl)
-    both-true true false u e = absurd (let z : _≡_ {A = ℕ} 0 1 = cc in omega arith)
-    both-true false t u e = absurd (let z : _≡_ {A = ℕ} 0 1 = cc in omega arith)
-
     -- a good place is the one that the index says, and its row ends before the index
     pub place-within : goodPlace b index count n p i ≡ true → (dword b (index + 4 * p) ≡ i) × (i + 1 + 3 * byte b i ≤ index)
     unfolding goodPlace
     place-within e =
-        let w = both-true (eqb (dword b (index + 4 * p)) i) (leb (i + 1 + 3 * byte b i) index) _ e in
-        (eqb-true _ _ (w .0), leb-true _ _ (w .1))
+        let says = eqb (dword b (index + 4 * p)) i in
+        let ends = leb (i + 1 + 3 * byte b i) index in
+        let w = and-left (says && ends) (goodRow n count (readMoves b (i + 1) (byte b i))) e in
+        (eqb-true _ _ (and-left says ends w), leb-true _ _ (and-right says ends w))
 
   rows-left : (left p i : ℕ) (good : Bool) → goodPlace b index count n p i ≡ good
       → isSome (readRows b index count n (suc left) p i) ≡ cond good (isSome (readRows b index count n left (suc p) (i + 1 + 3 * byte b i))) false

@@ -1,7 +1,7 @@
 -- A row is good if its codes ascend from 0 on and each move is good: one test after the other, move by move.
 -- Assumes nothing.
 use mathlib.Core.Path.{_≡_, refl, sym, ap, _∙_}
-use mathlib.Core.Bool.{Bool, true, false, _&&_}
+use mathlib.Core.Bool.{Bool, true, false, _&&_, and-assoc, and-false}
 use mathlib.Core.List.{List, [], _∷_}
 use mathlib.Core.Option.{some, none}
 use Prim.Native.Nat.{ℕ, zero, suc, _+_, _-_, _<_, _≤_}
@@ -20,30 +20,24 @@ unfolding readMoves
 length-read b i zero = refl
 length-read b i (suc left) = ap suc (length-read b (i + 3) left)
 
+regroup : (a g s t u : Bool) → (a && (g && (s && (t && u)))) ≡ (a && (s && t && (g && u)))
+regroup false g s t u = refl
+regroup true true s t u = sym (and-assoc s t u)
+regroup true false s t u = sym (and-false (s && t))
+
 module _ (n count : ℕ) where
   -- codes ascend from `low` on, and each move is good
   unfoldable pub goodFrom : ℕ → List Move → Bool
   goodFrom low [] = true
   goodFrom low (m ∷ row) = leb low (m .code) && (goodMove n count m && goodFrom (suc (m .code)) row)
 
-  regroup : (a g s t u : Bool) → (a && (g && (s && (t && u)))) ≡ (a && (s && t && (g && u)))
-  regroup false g s t u = refl
-  regroup true true s t u = go s t u
-    where
-      go : (s t u : Bool) → (s && (t && u)) ≡ (s && t && u)
-      go true t u = refl
-      go false t u = refl
-  regroup true false s t u = go (s && t)
-    where
-      go : (x : Bool) → false ≡ (x && false)
-      go true = refl
-      go false = refl
-
   -- the same with the three tests of `goodRow` apart
   from-is : (low : ℕ) (m : Move) (row : List Move) → goodFrom low (m ∷ row) ≡ (leb low (m .code) && (ascending (m ∷ row) && all (goodMove n count) (m ∷ row)))
   unfolding goodFrom ascending all
   from-is low m [] = refl
-  from-is low m (l ∷ row) = rw (from-is (suc (m .code)) l row) (regroup (leb low (m .code)) (goodMove n count m) (ltb (m .code) (l .code)) (ascending (l ∷ row)) (all (goodMove n count) (l ∷ row)))
+  from-is low m (l ∷ row) =
+      rw (from-is (suc (m .code)) l row)
+      (regroup (leb low (m .code)) (goodMove n count m) (ltb (m .code) (l .code)) (ascending (l ∷ row)) (all (goodMove n count) (l ∷ row)))
 
   good-is : (row : List Move) → (ascending row && all (goodMove n count) row) ≡ goodFrom 0 row
   unfolding goodFrom ascending all

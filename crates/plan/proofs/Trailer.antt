@@ -5,14 +5,13 @@ use mathlib.Core.Bool.{Bool, true, false, cond, _&&_}
 use mathlib.Core.List.{List}
 use mathlib.Core.Option.{Option, none}
 use Prim.Native.Nat.{ℕ, _+_, _-_, _*_, _<_, _≤_}
-use native.Mathlib.Omega.{arith}
 use lib.ListN.{length}
 use lib.Dec.{eqb, leb}
 use borrow.Author.Tests.{le-leb, lt-leb, eq-eqb, ne-eqb, eqb-true}
 use Rattle.model.specs.Bytes.{byte, word, dword}
 use Rattle.model.specs.Plan.{Plan, readRows, readWith, readPlan}
 use Rattle.plan.specs.Layout.{isSome, goodTrailer}
-use Rattle.plan.proofs.Answers.{is-some-cond, is-some-map}
+use Rattle.plan.proofs.Answers.{and-left, and-right, is-some-cond, is-some-map}
 
 regroup : (a b c d e : Bool) → (a && (b && (c && (d && e)))) ≡ (a && (b && (c && d)) && e)
 regroup false b c d e = refl
@@ -36,35 +35,30 @@ module _ (b : List ℕ) (index count n k : ℕ) where
   unfolding readWith
   tests = regrouped _ _ (is-some-map _ (readRows b index count n count 0 0))
 
-  third : (s t u v : Bool) → (s && (t && u) && v) ≡ true → u ≡ true
-  third true true true v e = refl
-  third true true false v e = e
-  third true false u v e = absurd (let z : _≡_ {A = ℕ} 0 1 = cc in omega arith)
-  third false t u v e = absurd (let z : _≡_ {A = ℕ} 0 1 = cc in omega arith)
-
   -- rows, index and trailer fill the bytes
   pub with-room : isSome (readWith b index count n k) ≡ true → index + 4 * count + 8 ≡ length b
   with-room e =
-      eqb-true _ _
-      (third (leb 8 (length b)) (goodTrailer count n k) (eqb (index + 4 * count + 8) (length b)) (isSome (readRows b index count n count 0 0)) (sym tests ∙ e))
+      let long = leb 8 (length b) in
+      let filled = eqb (index + 4 * count + 8) (length b) in
+      let w = and-left (long && (goodTrailer count n k && filled)) (isSome (readRows b index count n count 0 0)) (sym tests ∙ e) in
+      eqb-true _ _ (and-right (goodTrailer count n k) filled (and-right long (goodTrailer count n k && filled) w))
 
-  module _ (long : 8 ≤ length b) where
-    pub with-trailer : goodTrailer count n k ≡ false → isSome (readWith b index count n k) ≡ false
-    with-trailer h = tests ∙ rw (le-leb 8 _ long, h)
-
-    pub with-index : goodTrailer count n k ≡ true → (index + 4 * count + 8 ≡ length b → ⊥) → isSome (readWith b index count n k) ≡ false
-    with-index h e = tests ∙ rw (le-leb 8 _ long, h, ne-eqb _ _ e)
-
-    pub with-rows : goodTrailer count n k ≡ true → index + 4 * count + 8 ≡ length b
-        → isSome (readWith b index count n k) ≡ isSome (readRows b index count n count 0 0)
-    with-rows h e = tests ∙ rw (le-leb 8 _ long, h, eq-eqb _ _ e)
-
-pub plan-short : (b : List ℕ) → length b < 8 → isSome (readPlan b) ≡ false
+pub plan-short : (b : List ℕ) → length b < 8 → false ≡ isSome (readPlan b)
 unfolding readPlan
-plan-short b h = tests b _ _ _ _ ∙ rw (lt-leb 8 (length b) h)
+plan-short b h = sym (tests b _ _ _ _ ∙ rw (lt-leb 8 (length b) h))
 
--- the plan by numbers that were read from its trailer
-pub plan-with : (b : List ℕ) (index count n k : ℕ) → index ≡ dword b (length b - 8) → count ≡ word b (length b - 4)
-    → n ≡ byte b (length b - 2) → k ≡ byte b (length b - 1) → readPlan b ≡ readWith b index count n k
-unfolding readPlan
-plan-with b index count n k i c x y = rw (i, c, x, y)
+-- by numbers that were read from the trailer
+module _ (b : List ℕ) (long : 8 ≤ length b) (index count n k : ℕ) (i : index ≡ dword b (length b - 8)) (c : count ≡ word b (length b - 4))
+    (x : n ≡ byte b (length b - 2)) (y : k ≡ byte b (length b - 1)) where
+  plan-tests : (leb 8 (length b) && (goodTrailer count n k && eqb (index + 4 * count + 8) (length b)) && isSome (readRows b index count n count 0 0)) ≡ isSome (readPlan b)
+  unfolding readPlan
+  plan-tests = sym (rw (sym i, sym c, sym x, sym y) (tests b index count n k))
+
+  pub plan-trailer : goodTrailer count n k ≡ false → false ≡ isSome (readPlan b)
+  plan-trailer h = rw (le-leb 8 (length b) long, h) at plan-tests
+
+  pub plan-index : goodTrailer count n k ≡ true → (index + 4 * count + 8 ≡ length b → ⊥) → false ≡ isSome (readPlan b)
+  plan-index h e = rw (le-leb 8 (length b) long, h, ne-eqb _ _ e) at plan-tests
+
+  pub plan-rows : goodTrailer count n k ≡ true → index + 4 * count + 8 ≡ length b → isSome (readRows b index count n count 0 0) ≡ isSome (readPlan b)
+  plan-rows h e = rw (le-leb 8 (length b) long, h, eq-eqb _ _ e) at plan-tests

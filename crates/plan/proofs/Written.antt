@@ -59,5 +59,7 @@ module _ (codes nexts : List ℕ) where
       → zs ≡ front (rowBytes (movesFrom codes nexts 0 size)) xs
   unfolding rowBytes
   row-written size i xs ys zs e y z =
-      let w : size ∷ moveBytes (movesFrom codes nexts 0 i) ≡ length (movesFrom codes nexts 0 size) ∷ moveBytes (movesFrom codes nexts 0 size) = rw (e, length-from 0 size) in
-      z ∙ ap (front (size ∷ moveBytes (movesFrom codes nexts 0 i))) y ∙ front-over (size ∷ []) (size ∷ moveBytes (movesFrom codes nexts 0 i)) xs (omega arith) ∙ ap (λ (v : List ℕ). front v xs) w
+      let moves = moveBytes (movesFrom codes nexts 0 i) in
+      let row = movesFrom codes nexts 0 size in
+      let w : size ∷ moves ≡ length row ∷ moveBytes row = rw (e, length-from 0 size) in
+      z ∙ ap (front (size ∷ moves)) y ∙ front-over (size ∷ []) (size ∷ moves) xs (omega arith) ∙ ap (λ (v : List ℕ). front v xs) w

@@ -1,5 +1,9 @@
 pub mod Union
+pub mod Ones
+pub mod Stray
 pub mod Reading
 pub mod Rows
 pub mod Whole
 pub mod Answers
+pub mod RowAnswers
+pub mod SheetAnswers

@@ -10,12 +10,14 @@ module _ {E A : Type 0} where
   pub good-inj : {a a′ : A} → _≡_ {A = Reading E A} (good a) (good a′) → a ≡ a′
   good-inj h = cc
 
-  pub check-good : (p : Bool) (e : E) (rest : Reading E A) {a : A} → check p e rest ≡ good a → (p ≡ true) × (rest ≡ good a)
+  pub check-good : (p : Bool) (e : E) (rest : Reading E A) {a : A} → check p e rest ≡ good a → (p ≡ true) ×
+      (rest ≡ good a)
   unfolding check
   check-good true e rest h = (refl, h)
   check-good false e rest h = let z : _≡_ {A = ℕ} 0 1 = cc in absurd (omega arith)
 
-pub then-good : {E A B : Type 0} (r : Reading E A) (f : A → Reading E B) {b : B} → then r f ≡ good b → (a : A) × (r ≡ good a) × (f a ≡ good b)
+pub then-good : {E A B : Type 0} (r : Reading E A) (f : A → Reading E B) {b : B} → then r f ≡ good b → (a : A) ×
+    (r ≡ good a) × (f a ≡ good b)
 unfolding then
 then-good (good a) f h = (a, refl, h)
 then-good (refusal e) f h = let z : _≡_ {A = ℕ} 0 1 = cc in absurd (omega arith)

@@ -5,13 +5,13 @@ use Prim.Native.Nat.{ℕ}
 use Rattle.model.specs.Sheet as model
 use Rattle.model.specs.Sheet.{Reading, Fault, good, refusal}
 use Rattle.sheet.specs.Union.{unionFrom}
-use Rattle.sheet.specs.declared.Trailer as declared
+use Rattle.sheet.specs.declared.parts.Trailer as declared
 use Rattle.sheet.specs.declared.Checked.{Checked}
 use Rattle.sheet.specs.declared.Checked.the-variants as C
-use Rattle.sheet.specs.declared.Masks.{Masks}
-use Rattle.sheet.specs.declared.Masks.the-variants as M
-use Rattle.sheet.specs.declared.Row.{Row}
-use Rattle.sheet.specs.declared.Row.the-variants as R
+use Rattle.sheet.specs.declared.parts.Masks.{Masks}
+use Rattle.sheet.specs.declared.parts.Masks.the-variants as M
+use Rattle.sheet.specs.declared.parts.Row.{Row}
+use Rattle.sheet.specs.declared.parts.Row.the-variants as R
 
 -- the trailer that a struct holds
 abbrev pub trailerOf : declared.Trailer → model.Trailer

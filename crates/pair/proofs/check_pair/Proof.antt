@@ -1,7 +1,9 @@
 -- `pair::check_pair` meets its contract: the first sheet is refused, or what follows is the check of the second.
 -- Assumes nothing.
 use borrow.Author.Needs.{needs}
-use Rattle.pair.proofs.Pairs.{whole-sheet, first-refused}
+use mathlib.Core.Path.{sym, _∙_}
+use Rattle.sheet.proofs.Answers.{whole-sheet}
+use Rattle.pair.proofs.Pairs.{first-refused}
 use Rattle.pair.proofs.check_pair.Statement.{statement}
 use Rattle.pair.proofs.check_pair.Tie as tie
 
@@ -15,7 +17,7 @@ enum-told : tie.Need-enum-told
 enum-told c = search needs
 
 check-second-requires : tie.Need-check-second-requires
-check-second-requires c κs = whole-sheet _ _ (c .before .before .check-sheet .ensures) (c .enum-told .given .1)
+check-second-requires c κs = whole-sheet _ (sym (c .before .before .check-sheet .ensures) ∙ c .enum-told .given .1)
 
 returns : tie.Need-returns
 returns c = first-refused _ _ _ _ _ _ _ _ (c .before .before .before .check-sheet .ensures) (c .before .number .given .1)

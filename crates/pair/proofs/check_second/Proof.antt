@@ -1,7 +1,9 @@
 -- `pair::check_second` meets its contract: the second sheet is refused, or what follows is the check of the places.
 -- Assumes nothing.
 use borrow.Author.Needs.{needs}
-use Rattle.pair.proofs.Pairs.{whole-sheet, second-refused}
+use mathlib.Core.Path.{sym, _∙_}
+use Rattle.sheet.proofs.Answers.{whole-sheet}
+use Rattle.pair.proofs.Pairs.{second-refused}
 use Rattle.pair.proofs.check_second.Statement.{statement}
 use Rattle.pair.proofs.check_second.Tie as tie
 
@@ -16,7 +18,7 @@ enum-told c = search needs
 
 check-places-requires : tie.Need-check-places-requires
 check-places-requires c κs =
-    (c .before .before .before .before .before .pre, whole-sheet _ _ (c .before .before .check-sheet .ensures) (c .enum-told .given .1))
+    (c .before .before .before .before .before .pre, whole-sheet _ (sym (c .before .before .check-sheet .ensures) ∙ c .enum-told .given .1))
 
 returns : tie.Need-returns
 returns c =

@@ -76,7 +76,12 @@ step-row-requires c κs = row-stands (c .before)
 
 returns-2 : tie.Need-returns-2
 unfolding byte
-returns-2 c = c .step-row .ensures ∙ ap steppedOf (step-state _ (is-plan (c .before .before .before .before .before .before)) _ _ (c .before .before .before .before .before .word-at .ensures) (c .before .before .before .before .if2 .left) _ (c .before .before .before .dword-at .ensures) _ (c .before .before .dword-at2 .ensures) _)
+returns-2 c =
+    let d = c .before .before .before in
+    let state = d .before .if2 .left in
+    let count = d .before .before .word-at .ensures in
+    let row = step-state _ (is-plan (d .before .before .before)) _ _ count state _ (d .dword-at .ensures) _ (c .before .before .dword-at2 .ensures) _ in
+    c .step-row .ensures ∙ ap steppedOf row
 
 returns-3 : tie.Need-returns-3
 unfolding steppedOf

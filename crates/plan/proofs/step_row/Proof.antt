@@ -12,7 +12,8 @@ use Rattle.plan.proofs.step_row.Statement.{statement}
 use Rattle.plan.proofs.step_row.Tie as tie
 
 abbrev Inv-loop : tie.InvT-loop
-Inv-loop plan first size code left₀ at₀ left at = (held (readMoves plan first size) code ≡ held (readMoves plan at left) code) × ((at + 3 * left ≡ first + 3 * size) × (left ≤ size))
+Inv-loop plan first size code left₀ at₀ left at =
+    (held (readMoves plan first size) code ≡ held (readMoves plan at left) code) × ((at + 3 * left ≡ first + 3 * size) × (left ≤ size))
 
 abbrev μ-loop : tie.MeasureT-loop
 μ-loop plan first size code left₀ at₀ left at = left

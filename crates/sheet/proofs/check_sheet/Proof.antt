@@ -1,9 +1,9 @@
 -- `sheet::check_sheet` meets its contract: a law for each answer, in the order of refusals 1 to 3, then the states.
 -- Assumes nothing.
-use mathlib.Core.Path.{_≡_, refl, sym, ap, _∙_}
+use mathlib.Core.Path.{sym, _∙_}
 use native.Mathlib.Omega.{arith}
 use borrow.Author.Tests.{not-true, not-false}
-use Rattle.sheet.proofs.Answers.{sheet-short, sheet-long, sheet-trailer, sheet-index, sheet-states}
+use Rattle.sheet.proofs.SheetAnswers.{sheet-short, sheet-long, sheet-trailer, sheet-index, sheet-states}
 use Rattle.sheet.proofs.check_sheet.Statement.{statement}
 use Rattle.sheet.proofs.check_sheet.Tie as tie
 
@@ -20,7 +20,12 @@ good-trailer-requires : tie.Need-good-trailer-requires
 good-trailer-requires c κs = tt
 
 returns-3 : tie.Need-returns-3
-returns-3 c = sheet-trailer _ (c .before .before .before .before .if1 .left) (c .before .before .before .if2 .left) _ (c .before .before .read-trailer .ensures) (sym (c .before .good-trailer .ensures) ∙ not-true _ (c .if3 .taken))
+returns-3 c =
+    let good = c .before in
+    let read = good .before in
+    let long = read .before in
+    sheet-trailer _ (long .before .if1 .left) (long .if2 .left) _ (read .read-trailer .ensures)
+    (sym (good .good-trailer .ensures) ∙ not-true _ (c .if3 .taken))
 
 cast-if4 : tie.Need-cast-if4
 cast-if4 c = omega arith
@@ -38,13 +43,29 @@ add-if4-2 : tie.Need-add-if4-2
 add-if4-2 c = omega arith
 
 returns-4 : tie.Need-returns-4
-returns-4 c = sheet-index _ (c .before .before .before .before .before .before .before .if1 .left) (c .before .before .before .before .before .before .if2 .left) _ (c .before .before .before .before .before .read-trailer .ensures) (sym (c .before .before .before .before .good-trailer .ensures) ∙ not-false _ (c .before .before .before .if3 .left)) (c .if4 .taken)
+returns-4 c =
+    let tested = c .before .before .before in
+    let good = tested .before in
+    let read = good .before in
+    let long = read .before in
+    sheet-index _ (long .before .if1 .left) (long .if2 .left) _ (read .read-trailer .ensures)
+    (sym (good .good-trailer .ensures) ∙ not-false _ (tested .if3 .left)) (c .if4 .taken)
 
 check-states-requires : tie.Need-check-states-requires
-check-states-requires c κs = (sym (c .before .before .before .before .good-trailer .ensures) ∙ not-false _ (c .before .before .before .if3 .left), c .if4 .left, c .before .before .before .before .before .before .if2 .left)
+check-states-requires c κs =
+    let tested = c .before .before .before in
+    let good = tested .before in
+    (sym (good .good-trailer .ensures) ∙ not-false _ (tested .if3 .left), c .if4 .left, good .before .before .if2 .left)
 
 returns-5 : tie.Need-returns-5
-returns-5 c = c .check-states .ensures ∙ sheet-states _ (c .before .before .before .before .before .before .before .before .if1 .left) (c .before .before .before .before .before .before .before .if2 .left) _ (c .before .before .before .before .before .before .read-trailer .ensures) (sym (c .before .before .before .before .before .good-trailer .ensures) ∙ not-false _ (c .before .before .before .before .if3 .left)) (c .before .if4 .left)
+returns-5 c =
+    let tested = c .before .before .before .before in
+    let good = tested .before in
+    let read = good .before in
+    let long = read .before in
+    c .check-states .ensures
+    ∙ sheet-states _ (long .before .if1 .left) (long .if2 .left) _ (read .read-trailer .ensures)
+    (sym (good .good-trailer .ensures) ∙ not-false _ (tested .if3 .left)) (c .before .if4 .left)
 
 pub check-sheet-spec : {M : Type 1} → statement M
 check-sheet-spec =

@@ -1,7 +1,7 @@
 -- `sheet::offers_action` meets its contract: a state offers what is in the union of its ready sets.
 -- Assumes nothing.
-use mathlib.Core.Path.{_≡_, refl, sym, ap, _∙_}
-use Prim.Native.Nat.{ℕ, _+_, _*_}
+use mathlib.Core.Path.{ap, _∙_}
+use Prim.Native.Nat.{ℕ}
 use native.Mathlib.Omega.{arith}
 use Rattle.model.specs.Contract.{has, offers}
 use Rattle.sheet.proofs.Union.{has-union}
@@ -16,7 +16,9 @@ has-bit-requires c κs = omega arith
 
 returns : tie.Need-returns
 unfolding offers
-returns c = c .has-bit .ensures ∙ ap (λ (u : ℕ). has u (c .before .before .before .args .j)) (c .before .offered .ensures) ∙ has-union _ (c .before .before .before .args .j)
+returns c =
+    c .has-bit .ensures ∙ ap (λ (u : ℕ). has u (c .before .before .before .args .j)) (c .before .offered .ensures)
+    ∙ has-union _ (c .before .before .before .args .j)
 
 pub offers-action-spec : {M : Type 1} → statement M
 offers-action-spec = tie.close (tie.spec offered-requires has-bit-requires returns)

@@ -4,12 +4,13 @@ use mathlib.Core.Path.{_≡_}
 use Prim.Native.Nat.{_+_, _≤_}
 use native.Mathlib.Omega.{arith}
 use Rattle.sheet.specs.Union.{onesBelow}
-use Rattle.sheet.proofs.Union.{ones-none, ones-more}
+use Rattle.sheet.proofs.Ones.{ones-none, ones-more}
 use Rattle.sheet.proofs.ones_below.Statement.{statement}
 use Rattle.sheet.proofs.ones_below.Tie as tie
 
 abbrev Inv-loop : tie.InvT-loop
-Inv-loop mask j left₀ rest₀ ones₀ left rest ones = (ones + onesBelow rest left ≡ onesBelow mask j) × (ones + left ≤ 16)
+Inv-loop mask j left₀ rest₀ ones₀ left rest ones =
+    (ones + onesBelow rest left ≡ onesBelow mask j) × (ones + left ≤ 16)
 
 abbrev μ-loop : tie.MeasureT-loop
 μ-loop mask j left₀ rest₀ ones₀ left rest ones = left
@@ -30,10 +31,14 @@ loop-less : tie.Need-loop-less Inv-loop μ-loop
 loop-less c = omega arith
 
 loop-again : tie.Need-loop-again Inv-loop μ-loop
-loop-again c = let l = c .before .loop in omega (arith, ones-more (l .rest) (l .left) (omega arith))
+loop-again c =
+    let l = c .before .loop in
+    omega (arith, ones-more (l .rest) (l .left) (omega arith))
 
 returns : tie.Need-returns Inv-loop μ-loop
-returns c = let l = c .before .loop in omega (arith, ones-none (l .rest) (l .left) (omega arith))
+returns c =
+    let l = c .before .loop in
+    omega (arith, ones-none (l .rest) (l .left) (omega arith))
 
 pub ones-below-spec : {M : Type 1} → statement M
 ones-below-spec =

@@ -25,7 +25,11 @@ word-at-requires : tie.Need-word-at-requires
 word-at-requires c κs = omega (arith, row-within _ (c .before .before .pre .0) _ (c .before .before .pre .1))
 
 returns : tie.Need-returns
-returns c = c .word-at .ensures ∙ ap (λ (p : ℕ). word (c .before .before .before .args .b .now) (p + 1 + 2 * c .before .before .before .args .i)) (c .before .row-start .ensures) ∙ row-stands _ (c .before .before .before .pre .0) _ (c .before .before .before .pre .1) .masks _ (c .before .before .before .pre .2)
+returns c =
+    c .word-at .ensures ∙ ap (λ (p : ℕ). word (c .before .before .before .args .b .now)
+    (p + 1 + 2 * c .before .before .before .args .i)) (c .before .row-start .ensures) ∙ row-stands _
+    (c .before .before .before .pre .0) _ (c .before .before .before .pre .1) .masks _
+    (c .before .before .before .pre .2)
 
 pub ready-set-spec : {M : Type 1} → statement M
 ready-set-spec =

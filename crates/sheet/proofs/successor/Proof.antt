@@ -1,7 +1,7 @@
 -- `sheet::successor` meets its contract: the successors follow the masks, one for each offered action in order.
 -- Assumes nothing.
-use mathlib.Core.Path.{_≡_, refl, sym, ap, _∙_}
-use Prim.Native.Nat.{ℕ, _+_, _*_}
+use mathlib.Core.Path.{ap, _∙_}
+use Prim.Native.Nat.{ℕ}
 use native.Mathlib.Omega.{arith}
 use Rattle.model.specs.Bytes.{byte}
 use Rattle.sheet.specs.Union.{onesBelow}
@@ -35,14 +35,32 @@ ones-below-requires : tie.Need-ones-below-requires
 ones-below-requires c κs = omega arith
 
 add-result : tie.Need-add-result
-add-result c = let o = c .ones-below .ensures ∙ ap (λ (u : ℕ). onesBelow u (c .before .before .before .before .before .args .j)) (c .before .offered .ensures) in omega (arith, o, place-within _ (c .before .before .before .before .before .pre .0) _ _ (c .before .before .before .before .before .pre .1) (c .before .before .before .before .before .pre .2) (c .before .before .before .before .before .pre .3), row-within _ (c .before .before .before .before .before .pre .0) _ (c .before .before .before .before .before .pre .1))
+add-result c =
+    let start = c .before .before .before .before .before in
+    let whole = start .pre .0 in
+    let place = c .ones-below .ensures ∙ ap (λ (u : ℕ). onesBelow u (start .args .j)) (c .before .offered .ensures) in
+    let within = place-within _ whole _ (start .pre .1) _ (start .pre .2) (start .pre .3) in
+    omega (arith, row-within _ whole _ (start .pre .1))
 
 shared-slice-read-result : tie.Need-shared-slice-read-result
-shared-slice-read-result c = let o = c .before .ones-below .ensures ∙ ap (λ (u : ℕ). onesBelow u (c .before .before .before .before .before .before .args .j)) (c .before .before .offered .ensures) in omega (arith, o, place-within _ (c .before .before .before .before .before .before .pre .0) _ _ (c .before .before .before .before .before .before .pre .1) (c .before .before .before .before .before .before .pre .2) (c .before .before .before .before .before .before .pre .3), row-within _ (c .before .before .before .before .before .before .pre .0) _ (c .before .before .before .before .before .before .pre .1))
+shared-slice-read-result c =
+    let counted = c .before in
+    let start = counted .before .before .before .before .before in
+    let whole = start .pre .0 in
+    let place =
+    counted .ones-below .ensures ∙ ap (λ (u : ℕ). onesBelow u (start .args .j)) (counted .before .offered .ensures) in
+    let within = place-within _ whole _ (start .pre .1) _ (start .pre .2) (start .pre .3) in
+    omega (arith, row-within _ whole _ (start .pre .1))
 
 returns : tie.Need-returns
 unfolding byte
-returns c = successor-stands _ (c .before .before .before .before .before .before .pre .0) _ _ (c .before .before .before .before .before .before .pre .1) (c .before .before .before .before .before .before .pre .2) (c .before .before .before .before .before .before .pre .3) _ _ _ (c .before .before .before .before .row-start .ensures) (c .before .before .before .ready-count .ensures) (c .before .ones-below .ensures ∙ ap (λ (u : ℕ). onesBelow u (c .before .before .before .before .before .before .args .j)) (c .before .before .offered .ensures))
+returns c =
+    let counted = c .before in
+    let ready = counted .before .before in
+    let start = ready .before .before .before in
+    successor-stands _ (start .pre .0) _ (start .pre .1) _ (start .pre .2) (start .pre .3) _ _ _
+    (ready .before .row-start .ensures) (ready .ready-count .ensures)
+    (counted .ones-below .ensures ∙ ap (λ (u : ℕ). onesBelow u (start .args .j)) (counted .before .offered .ensures))
 
 pub successor-spec : {M : Type 1} → statement M
 successor-spec =

@@ -1,6 +1,7 @@
 -- `plan::read::good_move` meets its contract: its two tests, one after the other.
 -- Assumes nothing.
 use mathlib.Core.Path.{sym, ap}
+use mathlib.Core.Bool.{Bool}
 use Prim.Native.Nat.{ℕ}
 use lib.Dec.{ltb}
 use Rattle.model.specs.Bytes.{byte}
@@ -23,7 +24,9 @@ word-at-requires c κs = search needs
 
 returns : tie.Need-returns
 unfolding goodMove moveAt byte
-returns c = rw (sym (c .before .before .named-below .ensures), c .before .if1 .taken) (ap (λ (w : ℕ). ltb w (c .before .before .before .before .before .args .count)) (c .word-at .ensures))
+returns c =
+    let below : ℕ → Bool = λ w. ltb w (c .before .before .before .before .before .args .count) in
+    rw (sym (c .before .before .named-below .ensures), c .before .if1 .taken) (ap below (c .word-at .ensures))
 
 returns-2 : tie.Need-returns-2
 unfolding goodMove moveAt byte

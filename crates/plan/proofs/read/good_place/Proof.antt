@@ -50,7 +50,9 @@ good-row-requires c κs = search needs
 
 returns-4 : tie.Need-returns-4
 unfolding byte
-returns-4 c = c .good-row .ensures ∙ place-row _ _ _ _ _ _ (sym (c .before .before .before .before .before .dword-at .ensures) ∙ c .before .before .before .before .if1 .left) (omega arith)
+returns-4 c =
+    c .good-row .ensures
+    ∙ place-row _ _ _ _ _ _ (sym (c .before .before .before .before .before .dword-at .ensures) ∙ c .before .before .before .before .if1 .left) (omega arith)
 
 pub good-place-spec : {M : Type 1} → statement M
 good-place-spec =

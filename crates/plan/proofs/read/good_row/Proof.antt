@@ -11,7 +11,8 @@ use Rattle.plan.proofs.read.good_row.Statement.{statement}
 use Rattle.plan.proofs.read.good_row.Tie as tie
 
 abbrev Inv-loop : tie.InvT-loop
-Inv-loop plan first size n count left₀ at₀ low₀ left at low = (goodRow n count (readMoves plan first size) ≡ goodFrom n count low (readMoves plan at left)) × (at + 3 * left ≡ first + 3 * size)
+Inv-loop plan first size n count left₀ at₀ low₀ left at low =
+    (goodRow n count (readMoves plan first size) ≡ goodFrom n count low (readMoves plan at left)) × (at + 3 * left ≡ first + 3 * size)
 
 abbrev μ-loop : tie.MeasureT-loop
 μ-loop plan first size n count left₀ at₀ low₀ left at low = left
@@ -37,7 +38,10 @@ good-move-requires c κs = omega arith
 
 returns-3 : tie.Need-returns-3 Inv-loop μ-loop
 unfolding byte
-returns-3 c = let l = c .before .before .before .before .before .loop in sym (l .inv .0 ∙ good-bad _ _ _ (l .at) (l .low) (l .left) (omega arith) (c .before .before .if2 .left) (failed (c .before .good-move .ensures) (c .if3 .taken)))
+returns-3 c =
+    let l = c .before .before .before .before .before .loop in
+    let bad = failed (c .before .good-move .ensures) (c .if3 .taken) in
+    sym (l .inv .0 ∙ good-bad _ _ _ (l .at) (l .low) (l .left) (omega arith) (c .before .before .if2 .left) bad)
 
 add-low : tie.Need-add-low Inv-loop μ-loop
 add-low c = omega (arith, c .before .before .before .shared-slice-known2 .given (c .before .before .before .before .before .loop .at))
@@ -53,7 +57,10 @@ loop-less c = omega arith
 
 loop-again : tie.Need-loop-again Inv-loop μ-loop
 unfolding byte
-loop-again c = let l = c .before .before .before .before .before .loop in (l .inv .0 ∙ good-more _ _ _ (l .at) (l .low) (l .left) (omega arith) (c .before .before .if2 .left) (passed (c .before .good-move .ensures) (c .if3 .left)), omega arith)
+loop-again c =
+    let l = c .before .before .before .before .before .loop in
+    let good = passed (c .before .good-move .ensures) (c .if3 .left) in
+    (l .inv .0 ∙ good-more _ _ _ (l .at) (l .low) (l .left) (omega arith) (c .before .before .if2 .left) good, omega arith)
 
 returns-4 : tie.Need-returns-4 Inv-loop μ-loop
 returns-4 c = let l = c .before .loop in sym (l .inv .0 ∙ good-none _ _ _ (l .at) (l .low) (l .left) (omega arith))

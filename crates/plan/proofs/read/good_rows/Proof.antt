@@ -14,7 +14,8 @@ use Rattle.plan.proofs.read.good_rows.Statement.{statement}
 use Rattle.plan.proofs.read.good_rows.Tie as tie
 
 abbrev Inv-loop : tie.InvT-loop
-Inv-loop plan index count n rows p₀ i₀ p i = (isSome (readRows plan index count n count 0 0) ≡ isSome (readRows plan index count n (count - p) p i)) × (p ≤ count)
+Inv-loop plan index count n rows p₀ i₀ p i =
+    (isSome (readRows plan index count n count 0 0) ≡ isSome (readRows plan index count n (count - p) p i)) × (p ≤ count)
 
 abbrev μ-loop : tie.MeasureT-loop
 μ-loop plan index count n rows p₀ i₀ p i = count - p

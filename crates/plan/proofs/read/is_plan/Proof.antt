@@ -1,15 +1,14 @@
 -- `plan::read::is_plan` meets its contract: a law for each test that fails, and one for the rows.
 -- Assumes nothing.
-use mathlib.Core.Path.{refl, sym, ap, _∙_}
+use mathlib.Core.Path.{refl, sym, _∙_}
 use Rattle.model.specs.Bytes.{byte}
-use Rattle.plan.specs.Layout.{isSome}
-use Rattle.plan.proofs.Trailer.{plan-short, plan-with, with-trailer, with-index, with-rows}
+use Rattle.plan.proofs.Trailer.{plan-short, plan-trailer, plan-index, plan-rows}
 use borrow.Author.Needs.{needs}
 use Rattle.plan.proofs.read.is_plan.Statement.{statement}
 use Rattle.plan.proofs.read.is_plan.Tie as tie
 
 returns : tie.Need-returns
-returns c = sym (plan-short _ (c .if1 .taken))
+returns c = plan-short _ (c .if1 .taken)
 
 dword-at-requires : tie.Need-dword-at-requires
 dword-at-requires c κs = search needs
@@ -55,15 +54,25 @@ good-rows-requires c κs = search needs
 
 returns-2 : tie.Need-returns-2
 unfolding byte
-returns-2 c = c .good-rows .ensures ∙ sym (ap isSome (plan-with _ _ _ _ _ (c .before .before .before .before .before .before .before .dword-at .ensures) (c .before .before .before .before .before .before .word-at .ensures) refl refl) ∙ with-rows _ _ _ _ _ (c .before .before .before .before .before .before .before .before .if1 .left) (sym (c .before .before .before .good-trailer .ensures) ∙ c .before .before .if2 .taken) (c .before .if3 .taken))
+returns-2 c =
+    c .good-rows .ensures
+    ∙ plan-rows _ (c .before .before .before .before .before .before .before .before .if1 .left) _ _ _ _
+    (c .before .before .before .before .before .before .before .dword-at .ensures) (c .before .before .before .before .before .before .word-at .ensures) refl refl
+    (sym (c .before .before .before .good-trailer .ensures) ∙ c .before .before .if2 .taken) (c .before .if3 .taken)
 
 returns-3 : tie.Need-returns-3
 unfolding byte
-returns-3 c = sym (ap isSome (plan-with _ _ _ _ _ (c .before .before .before .before .before .before .dword-at .ensures) (c .before .before .before .before .before .word-at .ensures) refl refl) ∙ with-index _ _ _ _ _ (c .before .before .before .before .before .before .before .if1 .left) (sym (c .before .before .good-trailer .ensures) ∙ c .before .if2 .taken) (c .if3 .left))
+returns-3 c =
+    plan-index _ (c .before .before .before .before .before .before .before .if1 .left) _ _ _ _
+    (c .before .before .before .before .before .before .dword-at .ensures) (c .before .before .before .before .before .word-at .ensures) refl refl
+    (sym (c .before .before .good-trailer .ensures) ∙ c .before .if2 .taken) (c .if3 .left)
 
 returns-4 : tie.Need-returns-4
 unfolding byte
-returns-4 c = sym (ap isSome (plan-with _ _ _ _ _ (c .before .before .before .before .before .dword-at .ensures) (c .before .before .before .before .word-at .ensures) refl refl) ∙ with-trailer _ _ _ _ _ (c .before .before .before .before .before .before .if1 .left) (sym (c .before .good-trailer .ensures) ∙ c .if2 .left))
+returns-4 c =
+    plan-trailer _ (c .before .before .before .before .before .before .if1 .left) _ _ _ _
+    (c .before .before .before .before .before .dword-at .ensures) (c .before .before .before .before .word-at .ensures) refl refl
+    (sym (c .before .good-trailer .ensures) ∙ c .if2 .left)
 
 pub is-plan-spec : {M : Type 1} → statement M
 is-plan-spec =

@@ -1,21 +1,23 @@
 -- `plan::write::put_row` meets its contract. The loop's invariant: the count and the first i moves stand at the front.
 -- The measure is the number of moves left. Assumes nothing.
-use mathlib.Core.Path.{_≡_, refl, sym, ap, _∙_}
-use mathlib.Core.List.{List, [], _∷_}
+use mathlib.Core.Path.{_≡_, refl, ap, _∙_}
+use mathlib.Core.List.{List, _∷_}
 use Prim.Native.Nat.{ℕ, _+_, _*_, _-_, _≤_}
 use native.Mathlib.Omega.{arith}
 use lib.ListN.{length}
 use Rattle.model.specs.Bytes.{le16}
 use Rattle.model.specs.Plan.{moveBytes}
 use Rattle.plan.specs.Front.{front, movesFrom}
-use Rattle.plan.proofs.Front.{length-front, front-then, front-over}
+use Rattle.plan.proofs.Front.{length-front, front-then, front-again}
 use Rattle.plan.proofs.Written.{length-row, row-more, row-written}
 use borrow.Author.Needs.{needs}
 use Rattle.plan.proofs.write.put_row.Statement.{statement}
 use Rattle.plan.proofs.write.put_row.Tie as tie
 
 abbrev Inv-loop : tie.InvT-loop
-Inv-loop out₀ size codes nexts i₀ at₀ out i at = (out ≡ front (size ∷ moveBytes (movesFrom codes nexts 0 i)) out₀) × ((at ≡ 1 + 3 * i) × ((length out ≡ length out₀) × ((i ≤ size) × ((1 + 3 * size ≤ length out₀) × ((size ≤ length codes) × (size ≤ length nexts))))))
+Inv-loop out₀ size codes nexts i₀ at₀ out i at =
+    (out ≡ front (size ∷ moveBytes (movesFrom codes nexts 0 i)) out₀)
+    × ((at ≡ 1 + 3 * i) × ((length out ≡ length out₀) × ((i ≤ size) × ((1 + 3 * size ≤ length out₀) × ((size ≤ length codes) × (size ≤ length nexts))))))
 
 abbrev μ-loop : tie.MeasureT-loop
 μ-loop out₀ size codes nexts i₀ at₀ out i at = size - i
@@ -28,7 +30,7 @@ put-byte-requires c κs = search needs
 
 loop-holds : tie.Need-loop-holds Inv-loop μ-loop
 unfolding movesFrom moveBytes
-loop-holds c = let e = c .before .before .put-byte .ensures in (e ∙ sym (front-over (_ ∷ []) (_ ∷ []) _ (omega arith)) ∙ ap (front _) (sym e), (refl, (refl, (omega arith, (omega arith, (omega arith, omega arith))))))
+loop-holds c = (front-again _ _ _ (c .before .before .put-byte .ensures), (refl, (refl, (omega arith, (omega arith, (omega arith, omega arith))))))
 
 sub-put-move : tie.Need-sub-put-move Inv-loop μ-loop
 sub-put-move c = search needs

@@ -1,17 +1,19 @@
--- `sheet::check_successors` meets its contract. The invariant: the successors left give the same answer.
+-- `sheet::parts::check_successors` meets its contract. The invariant: the successors left give the same answer.
 -- Assumes nothing.
-use mathlib.Core.Path.{_≡_, refl, sym, ap, _∙_}
-use Prim.Native.Nat.{ℕ, _+_, _-_, _*_, _<_, _≤_}
+use mathlib.Core.Path.{_≡_, refl, sym, _∙_}
+use Prim.Native.Nat.{_+_}
 use native.Mathlib.Omega.{arith}
 use Rattle.model.specs.Bytes.{byte}
 use Rattle.model.specs.Sheet.{successorsFrom}
 use Rattle.sheet.specs.Answers.{trailerOf, checkedOf}
-use Rattle.sheet.proofs.Answers.{successors-none, successors-fault, successors-more}
-use Rattle.sheet.proofs.check_successors.Statement.{statement}
-use Rattle.sheet.proofs.check_successors.Tie as tie
+use Rattle.sheet.proofs.RowAnswers.{successors-none, successors-fault, successors-more}
+use Rattle.sheet.proofs.parts.check_successors.Statement.{statement}
+use Rattle.sheet.proofs.parts.check_successors.Tie as tie
 
 abbrev Inv-loop : tie.InvT-loop
-Inv-loop b t q count at left₀ i₀ left i = (checkedOf (successorsFrom b (trailerOf t) q count at) ≡ checkedOf (successorsFrom b (trailerOf t) q left i)) × (i + left ≡ at + count)
+Inv-loop b t q count at left₀ i₀ left i =
+    (checkedOf (successorsFrom b (trailerOf t) q count at) ≡ checkedOf (successorsFrom b (trailerOf t) q left i)) ×
+    (i + left ≡ at + count)
 
 abbrev μ-loop : tie.MeasureT-loop
 μ-loop b t q count at left₀ i₀ left i = left
@@ -27,7 +29,9 @@ cast-t11 c = omega arith
 
 returns : tie.Need-returns Inv-loop μ-loop
 unfolding byte
-returns c = let l = c .before .before .before .before .loop in sym (l .inv .0 ∙ successors-fault _ _ _ (l .left) (l .i) (omega arith) (c .if1 .taken))
+returns c =
+    let l = c .before .before .before .before .loop in
+    sym (l .inv .0 ∙ successors-fault _ _ _ (l .left) (l .i) (omega arith) (omega arith))
 
 add-i : tie.Need-add-i Inv-loop μ-loop
 add-i c = omega arith
@@ -40,10 +44,14 @@ loop-less c = omega arith
 
 loop-again : tie.Need-loop-again Inv-loop μ-loop
 unfolding byte
-loop-again c = let l = c .before .before .before .before .loop in (l .inv .0 ∙ successors-more _ _ _ (l .left) (l .i) (omega arith) (c .if1 .left), omega arith)
+loop-again c =
+    let l = c .before .before .before .before .loop in
+    (l .inv .0 ∙ successors-more _ _ _ (l .left) (l .i) (omega arith) (omega arith), omega arith)
 
 returns-2 : tie.Need-returns-2 Inv-loop μ-loop
-returns-2 c = let l = c .before .loop in sym (l .inv .0 ∙ successors-none _ _ _ (l .left) (l .i) (omega arith))
+returns-2 c =
+    let l = c .before .loop in
+    sym (l .inv .0 ∙ successors-none _ _ _ (l .left) (l .i) (omega arith))
 
 pub check-successors-spec : {M : Type 1} → statement M
 check-successors-spec =

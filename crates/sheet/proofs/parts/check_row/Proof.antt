@@ -1,12 +1,12 @@
--- `sheet::check_row` meets its contract: a law for each answer, in the order of the tests.
+-- `sheet::parts::check_row` meets its contract: a law for each answer, in the order of the tests.
 -- Assumes nothing.
-use mathlib.Core.Path.{_≡_, refl, sym, ap, _∙_}
+use mathlib.Core.Path.{_∙_}
 use native.Mathlib.Omega.{arith}
 use Rattle.model.specs.Bytes.{byte}
-use Rattle.sheet.proofs.Answers.{row-none, row-few, row-many, row-cut, row-fault, row-union}
+use Rattle.sheet.proofs.RowAnswers.{row-none, row-few, row-many, row-cut, row-fault, row-union}
 use borrow.Author.Needs.{needs}
-use Rattle.sheet.proofs.check_row.Statement.{statement}
-use Rattle.sheet.proofs.check_row.Tie as tie
+use Rattle.sheet.proofs.parts.check_row.Statement.{statement}
+use Rattle.sheet.proofs.parts.check_row.Tie as tie
 
 cast-index : tie.Need-cast-index
 cast-index c = search needs
@@ -45,7 +45,9 @@ add-behind-2 c = search needs
 
 returns-4 : tie.Need-returns-4
 unfolding byte
-returns-4 c = row-cut _ _ _ _ (c .before .before .before .before .if1 .left) (c .before .before .if2 .left) (c .before .if3 .left) (c .if4 .taken)
+returns-4 c =
+    let many = c .before in
+    row-cut _ _ _ _ (many .before .before .before .if1 .left) (many .before .if2 .left) (many .if3 .left) (c .if4 .taken)
 
 add-check-masks : tie.Need-add-check-masks
 add-check-masks c = search needs
@@ -64,11 +66,22 @@ check-behind-requires c κs = search needs
 
 returns-5 : tie.Need-returns-5
 unfolding byte
-returns-5 c = row-fault _ _ _ _ (c .before .before .before .before .before .before .before .before .if1 .left) (c .before .before .before .before .before .before .if2 .left) (c .before .before .before .before .before .if3 .left) (c .before .before .before .before .if4 .left) _ (c .before .before .before .check-masks .ensures) _ _ _ (c .before .number .given .1)
+returns-5 c =
+    let read = c .before .before .before in
+    let fits = read .before in
+    let many = fits .before in
+    row-fault _ _ _ _ (many .before .before .before .if1 .left) (many .before .if2 .left) (many .if3 .left) (fits .if4 .left)
+    _ (read .check-masks .ensures) _ _ _ (c .before .number .given .1)
 
 returns-6 : tie.Need-returns-6
 unfolding byte
-returns-6 c = c .check-behind .ensures ∙ row-union _ _ _ _ (c .before .before .before .before .before .before .before .before .before .if1 .left) (c .before .before .before .before .before .before .before .if2 .left) (c .before .before .before .before .before .before .if3 .left) (c .before .before .before .before .before .if4 .left) _ (c .before .before .before .before .check-masks .ensures) _ (c .before .before .union .given .1)
+returns-6 c =
+    let read = c .before .before .before .before in
+    let fits = read .before in
+    let many = fits .before in
+    c .check-behind .ensures
+    ∙ row-union _ _ _ _ (many .before .before .before .if1 .left) (many .before .if2 .left) (many .if3 .left)
+    (fits .if4 .left) _ (read .check-masks .ensures) _ (c .before .before .union .given .1)
 
 pub check-row-spec : {M : Type 1} → statement M
 check-row-spec =

@@ -1,16 +1,18 @@
--- `sheet::check_masks` meets its contract. The invariant: the masks left, read on with the union so far, give the same
+-- `sheet::parts::check_masks` meets its contract. The invariant: the masks left, read on with the union so far, give the same
 -- answer. Each way out is one law of the reading. Assumes nothing.
-use mathlib.Core.Path.{_≡_, refl, sym, ap, _∙_}
-use Prim.Native.Nat.{ℕ, _+_, _-_, _*_, _<_, _≤_}
+use mathlib.Core.Path.{_≡_, refl, sym, _∙_}
+use Prim.Native.Nat.{_+_, _*_}
 use native.Mathlib.Omega.{arith}
 use Rattle.model.specs.Sheet.{masksFrom}
 use Rattle.sheet.specs.Answers.{trailerOf, unionIn}
-use Rattle.sheet.proofs.Answers.{masks-none, masks-low, masks-stray, masks-more}
-use Rattle.sheet.proofs.check_masks.Statement.{statement}
-use Rattle.sheet.proofs.check_masks.Tie as tie
+use Rattle.sheet.proofs.RowAnswers.{masks-none, masks-low, masks-stray, masks-more}
+use Rattle.sheet.proofs.parts.check_masks.Statement.{statement}
+use Rattle.sheet.proofs.parts.check_masks.Tie as tie
 
 abbrev Inv-loop : tie.InvT-loop
-Inv-loop b t q count at left₀ i₀ low₀ union₀ left i low union = (unionIn 0 (masksFrom b (trailerOf t) q count 0 at) ≡ unionIn union (masksFrom b (trailerOf t) q left low i)) × (i + 2 * left ≡ at + 2 * count)
+Inv-loop b t q count at left₀ i₀ low₀ union₀ left i low union =
+    (unionIn 0 (masksFrom b (trailerOf t) q count 0 at) ≡ unionIn union (masksFrom b (trailerOf t) q left low i)) ×
+    (i + 2 * left ≡ at + 2 * count)
 
 abbrev μ-loop : tie.MeasureT-loop
 μ-loop b t q count at left₀ i₀ low₀ union₀ left i low union = left
@@ -28,7 +30,10 @@ cast-t13 : tie.Need-cast-t13 Inv-loop μ-loop
 cast-t13 c = omega arith
 
 returns : tie.Need-returns Inv-loop μ-loop
-returns c = let l = c .before .before .before .loop in sym (l .inv .0 ∙ masks-low _ _ _ (l .low) (l .i) (l .union) _ (c .before .word-at .ensures) (l .left) (omega arith) (c .if1 .taken))
+returns c =
+    let l = c .before .before .before .loop in
+    let low = masks-low _ _ _ (l .low) (l .i) (l .union) _ (c .before .word-at .ensures) (l .left) (omega arith) in
+    sym (l .inv .0 ∙ low (c .if1 .taken))
 
 stray-bit-requires : tie.Need-stray-bit-requires Inv-loop μ-loop
 stray-bit-requires c κs = omega arith
@@ -37,7 +42,13 @@ cast-t15 : tie.Need-cast-t15 Inv-loop μ-loop
 cast-t15 c = omega arith
 
 returns-2 : tie.Need-returns-2 Inv-loop μ-loop
-returns-2 c = let l = c .before .before .before .before .before .loop in sym (l .inv .0 ∙ masks-stray _ _ _ (l .low) (l .i) (l .union) _ (c .before .before .before .word-at .ensures) (l .left) (omega arith) (c .before .before .if1 .left) (sym (c .before .stray-bit .ensures) ∙ c .if2 .taken))
+returns-2 c =
+    let ascending = c .before .before in
+    let l = ascending .before .before .before .loop in
+    sym
+    (l .inv .0
+    ∙ masks-stray _ _ _ (l .low) (l .i) (l .union) _ (ascending .before .word-at .ensures) (l .left) (omega arith)
+    (ascending .if1 .left) (sym (c .before .stray-bit .ensures) ∙ c .if2 .taken))
 
 cast-low : tie.Need-cast-low Inv-loop μ-loop
 cast-low c = omega arith
@@ -55,10 +66,18 @@ loop-less : tie.Need-loop-less Inv-loop μ-loop
 loop-less c = omega arith
 
 loop-again : tie.Need-loop-again Inv-loop μ-loop
-loop-again c = let l = c .before .before .before .before .before .loop in (l .inv .0 ∙ masks-more _ _ _ (l .low) (l .i) (l .union) _ (c .before .before .before .word-at .ensures) (l .left) (omega arith) (c .before .before .if1 .left) (sym (c .before .stray-bit .ensures) ∙ c .if2 .left), omega arith)
+loop-again c =
+    let ascending = c .before .before in
+    let l = ascending .before .before .before .loop in
+    let more =
+    masks-more _ _ _ (l .low) (l .i) (l .union) _ (ascending .before .word-at .ensures) (l .left) (omega arith)
+    (ascending .if1 .left) (sym (c .before .stray-bit .ensures) ∙ c .if2 .left) in
+    (l .inv .0 ∙ more, omega arith)
 
 returns-3 : tie.Need-returns-3 Inv-loop μ-loop
-returns-3 c = let l = c .before .loop in sym (l .inv .0 ∙ masks-none _ _ _ (l .left) (l .low) (l .i) (l .union) (omega arith))
+returns-3 c =
+    let l = c .before .loop in
+    sym (l .inv .0 ∙ masks-none _ _ _ (l .left) (l .low) (l .i) (l .union) (omega arith))
 
 pub check-masks-spec : {M : Type 1} → statement M
 check-masks-spec =

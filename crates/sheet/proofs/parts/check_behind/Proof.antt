@@ -1,11 +1,11 @@
--- `sheet::check_behind` meets its contract: a law for each answer, from the count of offered actions on.
+-- `sheet::parts::check_behind` meets its contract: a law for each answer, from the count of offered actions on.
 -- Assumes nothing.
 use native.Mathlib.Omega.{arith}
-use Rattle.sheet.proofs.Union.{ones-few}
-use Rattle.sheet.proofs.Answers.{behind-short, behind-fault, behind-whole}
+use Rattle.sheet.proofs.Ones.{ones-few}
+use Rattle.sheet.proofs.RowAnswers.{behind-short, behind-fault, behind-whole}
 use borrow.Author.Needs.{needs}
-use Rattle.sheet.proofs.check_behind.Statement.{statement}
-use Rattle.sheet.proofs.check_behind.Tie as tie
+use Rattle.sheet.proofs.parts.check_behind.Statement.{statement}
+use Rattle.sheet.proofs.parts.check_behind.Tie as tie
 
 cast-index : tie.Need-cast-index
 cast-index c = search needs
@@ -32,10 +32,18 @@ add-t15 : tie.Need-add-t15
 add-t15 c = search needs
 
 returns-2 : tie.Need-returns-2
-returns-2 c = behind-fault _ _ _ _ _ _ (c .before .before .before .before .before .ones-below .ensures) (c .before .before .before .before .if1 .left) _ (c .before .before .before .check-successors .ensures) _ _ _ (c .before .number .given .1)
+returns-2 c =
+    let read = c .before .before .before in
+    let fits = read .before in
+    behind-fault _ _ _ _ _ _ (fits .before .ones-below .ensures) (fits .if1 .left) _ (read .check-successors .ensures) _ _ _
+    (c .before .number .given .1)
 
 returns-3 : tie.Need-returns-3
-returns-3 c = behind-whole _ _ _ _ _ _ (c .before .before .before .before .ones-below .ensures) (c .before .before .before .if1 .left) _ (c .before .before .check-successors .ensures) (c .enum-told .given .1)
+returns-3 c =
+    let read = c .before .before in
+    let fits = read .before in
+    behind-whole _ _ _ _ _ _ (fits .before .ones-below .ensures) (fits .if1 .left) _ (read .check-successors .ensures)
+    (c .enum-told .given .1)
 
 pub check-behind-spec : {M : Type 1} → statement M
 check-behind-spec =

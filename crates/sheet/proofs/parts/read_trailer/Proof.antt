@@ -1,11 +1,10 @@
--- `sheet::read_trailer` meets its contract: the fields are the numbers at the same places.
+-- `sheet::parts::read_trailer` meets its contract: the fields are the numbers at the same places.
 -- Assumes nothing.
-use mathlib.Core.Path.{_≡_, refl, sym, ap, _∙_}
 use Rattle.model.specs.Bytes.{byte}
 use Rattle.model.specs.Sheet.{trailer}
 use borrow.Author.Needs.{needs}
-use Rattle.sheet.proofs.read_trailer.Statement.{statement}
-use Rattle.sheet.proofs.read_trailer.Tie as tie
+use Rattle.sheet.proofs.parts.read_trailer.Statement.{statement}
+use Rattle.sheet.proofs.parts.read_trailer.Tie as tie
 
 sub-word-at : tie.Need-sub-word-at
 sub-word-at c = search needs

@@ -1,0 +1,202 @@
+-- The answers on masks, successors and rows, case by case: a law for each way in which one is found whole or at fault.
+-- Each unfolds one step of the model's reading. Assumes nothing.
+use mathlib.Core.Path.{_≡_, refl, sym, ap, _∙_}
+use mathlib.Core.Bool.{Bool, true, false, cond}
+use mathlib.Core.List.{List, [], _∷_}
+use Prim.Native.Nat.{ℕ, zero, suc, _+_, _-_, _*_, _<_, _≤_}
+use native.Mathlib.Omega.{arith}
+use native.Mathlib.Numerals.{add-one, sub-one}
+use lib.Dec.{leb}
+use lib.Bits.{bitOr, or-zero-l}
+use lib.ListN.{length}
+use borrow.Author.Tests.{lt-ltb, le-ltb, le-leb, lt-leb}
+use Rattle.model.specs.Lists.{keep}
+use Rattle.model.specs.Bytes.{byte, word}
+use Rattle.model.specs.Contract.{actions, offersIn}
+use Rattle.model.specs.Sheet as model
+use Rattle.model.specs.Sheet.{Reading, Fault, Trailer, good, refusal, check, then, strayBit, masksFrom, successorsFrom, rowWith, rowAt}
+use Rattle.sheet.specs.Union.{unionFrom, unionOf, onesBelow}
+use Rattle.sheet.specs.Answers.{checkedOf, unionIn, behindIn}
+use Rattle.sheet.proofs.Ones.{ones-offered}
+use Rattle.sheet.proofs.Answers.{checked-then, union-then}
+use Rattle.sheet.proofs.Rows.{row-reading}
+use Rattle.sheet.specs.declared.Checked.{Checked}
+use Rattle.sheet.specs.declared.Checked.the-variants as C
+use Rattle.sheet.specs.declared.parts.Masks.{Masks}
+use Rattle.sheet.specs.declared.parts.Masks.the-variants as M
+use Rattle.sheet.specs.declared.parts.Row.{Row}
+use Rattle.sheet.specs.declared.parts.Row.the-variants as R
+
+-- a row whose successors end at i
+behindOf : ℕ → Checked → Row
+behindOf i C.Whole = R.Behind i
+behindOf i (C.Fault number state offset) = R.Fault number state offset
+
+module _ (b : List ℕ) (t : Trailer) (q : ℕ) where
+  -- ---- masks
+  pub masks-none : (left low i union : ℕ) → left ≤ 0 → unionIn union (masksFrom b t q left low i) ≡ M.Union union
+  unfolding masksFrom unionIn unionFrom
+  masks-none zero low i union h = refl
+  masks-none (suc left) low i union h = absurd (omega arith)
+
+  module _ (low i union mask : ℕ) (w : mask ≡ word b i) where
+    pub masks-low : (left : ℕ) → 0 < left → mask < low → unionIn union (masksFrom b t q left low i) ≡ M.Fault 5 q i
+    unfolding masksFrom unionIn check
+    masks-low zero h l = absurd (omega arith)
+    masks-low (suc left) h l = simp (lt-leb low (word b i) (rw w at l))
+
+    pub masks-stray : (left : ℕ) → 0 < left → low ≤ mask → strayBit (t .n) (t .role) mask ≡ true
+        → unionIn union (masksFrom b t q left low i) ≡ M.Fault 6 q i
+    unfolding masksFrom unionIn check
+    masks-stray zero h l s = absurd (omega arith)
+    masks-stray (suc left) h l s = simp (le-leb low (word b i) (rw w at l), rw w at s)
+
+    pub masks-more : (left : ℕ) → 0 < left → low ≤ mask → strayBit (t .n) (t .role) mask ≡ false
+        → unionIn union (masksFrom b t q left low i)
+        ≡ unionIn (bitOr union mask) (masksFrom b t q (left - 1) (mask + 1) (i + 2))
+    unfolding masksFrom check
+    masks-more zero h l s = absurd (omega arith)
+    masks-more (suc left) h l s =
+        rw (w, add-one (word b i), sub-one (suc left))
+        (simp (le-leb low (word b i) (rw w at l), rw w at s)
+        (union-then union (word b i) (masksFrom b t q left (suc (word b i)) (i + 2))))
+
+  -- ---- successors
+  pub successors-none : (left i : ℕ) → left ≤ 0 → checkedOf (successorsFrom b t q left i) ≡ C.Whole
+  unfolding successorsFrom checkedOf
+  successors-none zero i h = refl
+  successors-none (suc left) i h = absurd (omega arith)
+
+  pub successors-fault : (left i : ℕ) → 0 < left → t .count ≤ byte b i
+      → checkedOf (successorsFrom b t q left i) ≡ C.Fault 7 q i
+  unfolding successorsFrom checkedOf check
+  successors-fault zero i h l = absurd (omega arith)
+  successors-fault (suc left) i h l = simp (le-ltb (byte b i) (t .count) l)
+
+  pub successors-more : (left i : ℕ) → 0 < left → byte b i < t .count
+      → checkedOf (successorsFrom b t q left i) ≡ checkedOf (successorsFrom b t q (left - 1) (i + 1))
+  unfolding successorsFrom check
+  successors-more zero i h l = absurd (omega arith)
+  successors-more (suc left) i h l =
+      rw (sub-one (suc left))
+      (simp (lt-ltb (byte b i) (t .count) l)
+      (checked-then (λ successors. byte b i ∷ successors) (successorsFrom b t q left (i + 1))))
+
+  -- ---- what follows the masks at i: the answer depends only on how many actions are offered
+  behindMasks : (i offered : ℕ) → Row
+  behindMasks i offered =
+      cond (leb (i + offered) (t .index))
+      (behindOf (i + offered) (checkedOf (successorsFrom b t q offered i)))
+      (R.Fault 4 q (t .index))
+
+  module _ (ready : List ℕ) where
+    rowOf : ℕ → List ℕ → model.Row
+    rowOf i successors = record { state = record { ready = ready; successors = successors }; behind = i }
+
+    behind-then : (i : ℕ) (r : Reading Fault (List ℕ))
+        → behindIn (then r (λ successors. good (rowOf i successors))) ≡ behindOf i (checkedOf r)
+    unfolding behindIn then checkedOf behindOf rowOf
+    behind-then i (good successors) = refl
+    behind-then i (refusal f) = refl
+
+    behind-test : (i offered : ℕ) (present : Bool)
+        → behindIn (check present (record { number = 4; state = q; offset = t .index })
+        (then (successorsFrom b t q offered i) (λ successors. good (rowOf (i + offered) successors))))
+        ≡ cond present (behindOf (i + offered) (checkedOf (successorsFrom b t q offered i))) (R.Fault 4 q (t .index))
+    unfolding check behindIn
+    behind-test i offered true = behind-then (i + offered) (successorsFrom b t q offered i)
+    behind-test i offered false = refl
+
+    behind-masks : (i : ℕ) → behindIn (rowWith b t q i ready) ≡ behindMasks i (onesBelow (unionOf ready) 14)
+    unfolding rowWith behindMasks rowOf
+    behind-masks i =
+        let offered = length (keep (offersIn ready) actions) in
+        behind-test i offered (leb (i + offered) (t .index)) ∙ ap (behindMasks i) (ones-offered ready)
+
+  behind-union : (i union : ℕ) → behindIn (rowWith b t q i (union ∷ [])) ≡ behindMasks i (onesBelow union 14)
+  unfolding unionOf unionFrom
+  behind-union i union =
+      behind-masks (union ∷ []) i ∙ ap (λ (u : ℕ). behindMasks i (onesBelow u 14)) (or-zero-l union)
+
+  module _ (i union offered : ℕ) (o : offered ≡ onesBelow union 14) where
+    behind-offered : behindMasks i offered ≡ behindIn (rowWith b t q i (union ∷ []))
+    behind-offered = ap (behindMasks i) o ∙ sym (behind-union i union)
+
+    pub behind-short : t .index < i + offered → R.Fault 4 q (t .index) ≡ behindIn (rowWith b t q i (union ∷ []))
+    unfolding behindMasks
+    behind-short l = simp (lt-leb _ _ l) at behind-offered
+
+    module _ (l : i + offered ≤ t .index) (r : Checked) (e : r ≡ checkedOf (successorsFrom b t q offered i)) where
+      behind-checked : behindOf (i + offered) r ≡ behindIn (rowWith b t q i (union ∷ []))
+      unfolding behindMasks
+      behind-checked = rw e (simp (le-leb _ _ l) at behind-offered)
+
+      pub behind-fault : (number state offset : ℕ) → r ≡ C.Fault number state offset
+          → R.Fault number state offset ≡ behindIn (rowWith b t q i (union ∷ []))
+      unfolding behindOf
+      behind-fault number state offset f = ap (behindOf (i + offered)) (sym f) ∙ behind-checked
+
+      pub behind-whole : r ≡ C.Whole → R.Behind (i + offered) ≡ behindIn (rowWith b t q i (union ∷ []))
+      unfolding behindOf
+      behind-whole f = ap (behindOf (i + offered)) (sym f) ∙ behind-checked
+
+  -- ---- a row
+  rowMasks : ℕ → Masks → Row
+  rowMasks i (M.Union union) = behindIn (rowWith b t q i (union ∷ []))
+  rowMasks i (M.Fault number state offset) = R.Fault number state offset
+
+  masks-then : (i : ℕ) (r : Reading Fault (List ℕ)) → behindIn (then r (rowWith b t q i)) ≡ rowMasks i (unionIn 0 r)
+  unfolding then unionIn unionOf rowMasks behindIn
+  masks-then i (good masks) = behind-masks masks i ∙ sym (behind-union i (unionOf masks))
+  masks-then i (refusal f) = refl
+
+  module _ (i : ℕ) where
+    abbrev behind : ℕ
+    behind = i + 1 + 2 * byte b i
+
+    pub row-none : t .index ≤ i → R.Fault 4 q (t .index) ≡ behindIn (rowAt b t q i)
+    unfolding rowAt check behindIn
+    row-none h = simp (le-ltb i (t .index) h)
+
+    module _ (h : i < t .index) where
+      pub row-few : byte b i < 1 → R.Fault 5 q i ≡ behindIn (rowAt b t q i)
+      unfolding rowAt check behindIn
+      row-few l = simp (lt-ltb i (t .index) h, lt-leb 1 (byte b i) l)
+
+      pub row-many : 1 ≤ byte b i → 8 < byte b i → R.Fault 5 q i ≡ behindIn (rowAt b t q i)
+      unfolding rowAt check behindIn
+      row-many l m = simp (lt-ltb i (t .index) h, le-leb 1 (byte b i) l, lt-leb (byte b i) 8 m)
+
+      module _ (l : 1 ≤ byte b i) (m : byte b i ≤ 8) where
+        pub row-cut : t .index < behind → R.Fault 4 q (t .index) ≡ behindIn (rowAt b t q i)
+        unfolding rowAt check behindIn
+        row-cut c =
+            simp (lt-ltb i (t .index) h, le-leb 1 (byte b i) l, le-leb (byte b i) 8 m, lt-leb behind (t .index) c)
+
+        module _ (c : behind ≤ t .index) (r : Masks) (e : r ≡ unionIn 0 (masksFrom b t q (byte b i) 0 (i + 1))) where
+          row-masks : rowMasks behind r ≡ behindIn (rowAt b t q i)
+          unfolding rowAt check
+          row-masks =
+              simp (lt-ltb i (t .index) h, le-leb 1 (byte b i) l, le-leb (byte b i) 8 m, le-leb behind (t .index) c)
+              (ap (rowMasks behind) e ∙ sym (masks-then behind (masksFrom b t q (byte b i) 0 (i + 1))))
+
+          pub row-fault : (number state offset : ℕ) → r ≡ M.Fault number state offset
+              → R.Fault number state offset ≡ behindIn (rowAt b t q i)
+          unfolding rowMasks
+          row-fault number state offset f = ap (rowMasks behind) (sym f) ∙ row-masks
+
+          pub row-union : (union : ℕ) → r ≡ M.Union union
+              → behindIn (rowWith b t q behind (union ∷ [])) ≡ behindIn (rowAt b t q i)
+          unfolding rowMasks
+          row-union union f = ap (rowMasks behind) (sym f) ∙ row-masks
+
+    -- a row that is whole ends before the index
+    row-ends : (behind : ℕ) (r : Reading Fault model.Row) → rowAt b t q i ≡ r → behindIn r ≡ R.Behind behind
+        → behind ≤ t .index
+    unfolding behindIn
+    row-ends behind (good row) e h =
+        let same : row .behind ≡ behind = cc in omega (arith, row-reading b t q i row e .1)
+    row-ends behind (refusal f) e h = let z : _≡_ {A = ℕ} 0 1 = cc in absurd (omega arith)
+
+    pub row-inside : (behind : ℕ) (r : Row) → r ≡ behindIn (rowAt b t q i) → r ≡ R.Behind behind → behind ≤ t .index
+    row-inside behind r e h = row-ends behind (rowAt b t q i) refl (sym e ∙ h)
