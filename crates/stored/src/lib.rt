@@ -1,20 +1,22 @@
 // Answers the cases that are stored as records on standard input. tests/reference makes the records and says what is to be printed for
 // each; its README has the form of every kind.
+mod runs;
 mod sheets;
+mod standstills;
 mod steps;
-
-ghost use Prim.Native.Nat.{_≤_};
 
 // What the records hold.
 pub enum Kind {
     Sheets,
     Steps,
+    Runs,
 }
 
 fn answer(kind: Kind, record: &[u8]) {
     match kind {
         Kind::Sheets => sheets::answer(record),
         Kind::Steps => steps::answer(record),
+        Kind::Runs => runs::answer(record),
     }
 }
 
