@@ -3,6 +3,7 @@ pub mod Actions
 pub mod Bits
 pub mod Rounds
 pub mod Search
+pub mod Growing
 pub mod Renumber
 pub mod Situation
 pub mod Test

@@ -70,7 +70,7 @@ bits-from (suc c) (suc n) mask =
     (λ l. omega (arith, low-bits mask c, pow-succ' 2 n))
 
 -- ---- the three parts of a mask
-any-halves : (p : ℕ → Bool) → any p actions ≡ (any p (upto 0 7) || any (λ i. p (7 + i)) (upto 0 7))
+pub any-halves : (p : ℕ → Bool) → any p actions ≡ (any p (upto 0 7) || any (λ i. p (7 + i)) (upto 0 7))
 unfolding any upto actions
 any-halves p = simp or-assoc
 
@@ -78,7 +78,7 @@ name-sent : (i : ℕ) → name (7 + i) ≡ i
 unfolding name takes
 name-sent i = simp (le-ltb (7 + i) 7 (omega arith)) (omega arith)
 
-has-sent : (mask i : ℕ) → has mask (7 + i) ≡ has (mask / 128) i
+pub has-sent : (mask i : ℕ) → has mask (7 + i) ≡ has (mask / 128) i
 unfolding has
 has-sent mask i =
     ap (λ (x : ℕ). eqb (x % 2) 1) (ap (λ (p : ℕ). mask / p) (pow-add 2 7 i) ∙ sym (div-div-eq-div-mul mask 128 (2 ^ i)))

@@ -1,0 +1,6 @@
+pub mod Masks
+pub mod Pairs
+pub mod Listed
+pub mod Search
+pub mod Answer
+pub mod Meaning
