@@ -29,6 +29,7 @@ KINDS = {
 STORED = {
     "sheets": Path("crates/sheet_run"),
     "steps": Path("crates/step_run"),
+    "clients": Path("crates/client_run"),
     "runs": Path("crates/walk_run"),
 }
 

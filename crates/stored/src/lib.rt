@@ -1,5 +1,6 @@
 // Answers the cases that are stored as records on standard input. tests/reference makes the records and says what is to be printed for
 // each; its README has the form of every kind.
+mod clients;
 mod runs;
 mod sheets;
 mod standstills;
@@ -9,6 +10,7 @@ mod steps;
 pub enum Kind {
     Sheets,
     Steps,
+    Clients,
     Runs,
 }
 
@@ -16,6 +18,7 @@ fn answer(kind: Kind, record: &[u8]) {
     match kind {
         Kind::Sheets => sheets::answer(record),
         Kind::Steps => steps::answer(record),
+        Kind::Clients => clients::answer(record),
         Kind::Runs => runs::answer(record),
     }
 }
