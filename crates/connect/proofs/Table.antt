@@ -2,7 +2,7 @@
 -- of situations are those over the situations. Situation i is element i of what the search found.
 -- Assumes nothing.
 use mathlib.Core.Path.{_≡_, refl, sym, ap, subst, subst⁻¹, _∙_}
-use mathlib.Core.Bool.{Bool, true, false}
+use mathlib.Core.Bool.{Bool, true, false, cond}
 use mathlib.Core.Option.{Option, none, some, Option·map, Option·some-injective, Option·none-ne-some}
 use mathlib.Core.List.{List, [], _∷_, _++_, map, append-nil, List·Memᴰ, List·Memᴰ·not-nil}
 use Prim.Native.Nat.{ℕ, zero, suc, _+_, _<_}
@@ -18,7 +18,7 @@ use Rattle.model.specs.Test.{test}
 use Rattle.model.specs.Search.{at-start, Search, member, addAll, search, searchFrom}
 use Rattle.model.specs.Rounds.{Settled, settled}
 use Rattle.model.specs.Plan.{planRows}
-use Rattle.model.specs.Connect.{settledOf, rowsFor}
+use Rattle.model.specs.Connect.{settledOf, rowsFor, counted, emitted, related}
 use Rattle.model.proofs.Lists.{getD-mem}
 use Rattle.model.proofs.Actions.{upto-mem}
 use Rattle.model.proofs.Situation.{is-same}
@@ -28,6 +28,8 @@ use Rattle.model.proofs.Renumber.{Within, Renumbering, settledNamed, settled-re
 use Rattle.table.specs.Keys.{keyOf, situationIn}
 use Rattle.table.specs.Links.{nextIn}
 use Rattle.table.proofs.Keys.{Fits, key-back}
+use Rattle.rounds.specs.Settled.{testIn, settledIn}
+use Rattle.connect.specs.Related.{relatedIn}
 
 -- ---- elements by their place
 
@@ -140,11 +142,11 @@ module _ (k : ℕ) (σ τ : Contract) (limit : ℕ) where
             let q : place (same t) done ≡ j = Option·some-injective _ j (ap (Option·map (λ t. place (same t) done)) (sym z) ∙ sym (h .links-hold i code p m) ∙ e) in
             subst (λ (n : ℕ). n < count) q (mem-at done (place (same t) done) t (place-at same is-same (found-next i code t p m z)))
 
-    pub renumbering : Renumbering same eqb codes nx (nextIn links) name Domain
+    renumbering : Renumbering same eqb codes nx (nextIn links) name Domain
     renumbering = record { agree = agree; step = step; inside = inside }
 
     -- a key holds its situation
-    pub key-names : (i : ℕ) → Domain i → situationIn (getD keys i 0) ≡ name i
+    key-names : (i : ℕ) → Domain i → situationIn (getD keys i 0) ≡ name i
     key-names i p =
         let there : getD keys i 0 ≡ keyOf (name i) =
         sym (getD-take count keys i 0 p) ∙ ap (λ (l : List ℕ). getD l i 0) (h .keys-hold) ∙ getD-map-in keyOf done i 0 start p in
@@ -152,27 +154,25 @@ module _ (k : ℕ) (σ τ : Contract) (limit : ℕ) where
 
     -- ---- rounds and rows over numbers
 
-    abbrev testIn : List ℕ → ℕ → Bool
-    testIn A i = test σ τ A (situationIn (getD keys i 0))
-
-    abbrev settledIn : Settled ℕ
-    settledIn = settled eqb codes (nextIn links) testIn (upto 0 count)
+    abbrev left : Settled ℕ
+    left = settledIn σ τ keys links count
 
     all-within : Within Domain (upto 0 count)
     all-within a m = omega (arith, upto-mem count 0 a m)
 
-    pub kept-within : Within Domain (settledIn .kept)
-    kept-within = settled-within renumbering testIn (upto 0 count) all-within
+    kept-within : Within Domain (left .kept)
+    unfolding settledIn testIn
+    kept-within = settled-within renumbering (testIn σ τ keys) (upto 0 count) all-within
 
-    pub settled-table : settledOf k σ τ done ≡ settledNamed name settledIn
-    unfolding settledOf
+    settled-table : settledOf k σ τ done ≡ settledNamed name left
+    unfolding settledOf settledIn testIn
     settled-table =
         ap (settled same codes nx (test σ τ)) (sym (places-all done [] start))
-        ∙ settled-renumber renumbering testIn (test σ τ) (λ A i p. ap (test σ τ A) (sym (key-names i p))) (upto 0 count) all-within
+        ∙ settled-renumber renumbering (testIn σ τ keys) (test σ τ) (λ A i p. ap (test σ τ A) (sym (key-names i p))) (upto 0 count) all-within
 
     -- ---- the start
 
-    pub start-named : name 0 ≡ start
+    start-named : name 0 ≡ start
     unfolding searchFrom search
     start-named = go limit
       where
@@ -189,16 +189,25 @@ module _ (k : ℕ) (σ τ : Contract) (limit : ℕ) where
         go [] m = absurd (List·Memᴰ·not-nil m)
         go (s ∷ l) m = omega arith
 
-    pub rows-table : rowsFor k σ τ (settledOf k σ τ done .kept) ≡ planRows eqb codes (nextIn links) (settledIn .kept) 0
+    rows-table : rowsFor k σ τ (settledOf k σ τ done .kept) ≡ planRows eqb codes (nextIn links) (left .kept) 0
     unfolding rowsFor
     rows-table =
         ap (λ (r : Settled Situation). planRows same codes nx (r .kept) start) settled-table
-        ∙ ap (λ (s : Situation). planRows same codes nx (map name (settledIn .kept)) s) (sym start-named)
-        ∙ plan-rows-renumber renumbering (settledIn .kept) 0 kept-within start-there
+        ∙ ap (λ (s : Situation). planRows same codes nx (map name (left .kept)) s) (sym start-named)
+        ∙ plan-rows-renumber renumbering (left .kept) 0 kept-within start-there
 
     -- the start is kept exactly if its number is
-    pub start-table : member same start (settledOf k σ τ done .kept) ≡ member eqb 0 (settledIn .kept)
+    start-table : member same start (settledOf k σ τ done .kept) ≡ member eqb 0 (left .kept)
     start-table =
         ap (λ (r : Settled Situation). member same start (r .kept)) settled-table
-        ∙ ap (λ (s : Situation). member same s (map name (settledIn .kept))) (sym start-named)
-        ∙ member-renumber renumbering 0 (settledIn .kept) start-there kept-within
+        ∙ ap (λ (s : Situation). member same s (map name (left .kept))) (sym start-named)
+        ∙ member-renumber renumbering 0 (left .kept) start-there kept-within
+
+    -- what follows the search is the same over numbers
+    pub related-table : (room : ℕ) → relatedIn k σ τ keys links count room ≡ related k σ τ room done
+    unfolding relatedIn related
+    related-table room =
+        let rounds : left .rounds ≡ settledOf k σ τ done .rounds = ap (λ (r : Settled Situation). r .rounds) (sym settled-table) in
+        let rows = sym rows-table in
+        let stays = sym start-table in
+        λ i. cond (stays i) (emitted k σ τ room count (rounds i) (rows i)) (counted 12 count 0 (rounds i) [])

@@ -6,7 +6,7 @@ use mathlib.Core.List.{List, map}
 use Prim.Native.Nat.{ℕ, _/_, min}
 use lib.ListN.{length}
 use Rattle.model.specs.Connect as model
-use Rattle.model.specs.Connect.{Outcome, counts, outcomeOf}
+use Rattle.model.specs.Connect.{Outcome, counts}
 use Rattle.plan.specs.Front.{front}
 use Rattle.connect.specs.declared.Answer.{Answer}
 

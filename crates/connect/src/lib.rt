@@ -4,11 +4,17 @@ ghost use mathlib.Core.Path.{_≡_};
 ghost use mathlib.Core.List.{map};
 ghost use Prim.Native.Nat.{_≤_, _<_, min};
 ghost use lib.ListN.{length};
-ghost use Rattle.model.specs.Sheet.{contractIn, plain};
-ghost use Rattle.model.specs.Situation.{alike};
-ghost use Rattle.model.specs.Connect.{refused, counted, connected};
+ghost use Rattle.model.specs.Contract.{Contract};
+ghost use Rattle.model.specs.Sheet.{contractIn};
+ghost use Rattle.model.specs.Connect.{refused, emitted, connected, limitOf, outcomeOf};
 ghost use Rattle.sheet.specs.Whole.{IsSheet};
-ghost use Rattle.connect.specs.Answers.{answerOf, recordsOf};
+ghost use Rattle.numbering.specs.Kept.{WorkLists, rowsIn};
+ghost use Rattle.numbering.specs.Numbered.{Room};
+ghost use Rattle.rounds.specs.Settled.{WorkTable};
+ghost use Rattle.connect.specs.Answers.{answerOf, recordsOf, afterwards, Writes};
+ghost use Rattle.connect.specs.Related.{relatedIn};
+use pair::Pair;
+use reached::Reach;
 
 // What connecting answers: number, sheet and state of a refusal; situations, plan states and rounds; the plan's length.
 #[repr(C)]
@@ -66,6 +72,132 @@ fn smaller(a: usize, b: usize) -> usize
     ensures { λ r. ⌜ r ≡ min a b ⌝ }
 {
     if a < b { a } else { b }
+}
+
+// 13, or the plan written and accepted: `count` situations with their links, those that stay unmarked, the first among them.
+fn emit(
+    k: u8,
+    old: &[u8],
+    links: &[u16],
+    marks: &[u16],
+    order: &mut [u16],
+    numbers: &mut [u16],
+    plan: &mut [u8],
+    count: u16,
+    rounds: u16,
+) -> Answer
+    requires { ⌜ IsSheet (now old) × WorkLists count (now links) (now marks) × Room count (now order) (now numbers) ⌝ }
+    ensures { λ r. ⌜ ((τ : Contract) → Writes (emitted k (contractIn (now (old .entry))) τ (length (now (plan .entry))) count rounds (rowsIn (now (links .entry)) (now (marks .entry)) count)) r (now (plan .entry)) (now (plan .exit))) ⌝ }
+{
+    let states = numbering::number::number_states(links, marks, order, numbers, count as usize);
+    let length = numbering::write::plan_length(links, marks, order, count as usize, states);
+    if plan.len() < length as usize {
+        return with_counts(13, count, states, rounds, 0);
+    }
+    let n = sheet::name_count(old);
+    numbering::write::write_plan(
+        links,
+        marks,
+        order,
+        numbers,
+        count as usize,
+        states,
+        n,
+        k,
+        plan,
+    );
+    with_counts(0, count, states, rounds, length)
+}
+
+// 12, or what follows: the rounds, for `count` situations with their keys and links.
+fn relate(
+    k: u8,
+    old: &[u8],
+    new: &[u8],
+    keys: &[u64],
+    links: &[u16],
+    marks: &mut [u16],
+    order: &mut [u16],
+    numbers: &mut [u16],
+    plan: &mut [u8],
+    count: u16,
+) -> Answer
+    requires { ⌜ WorkTable (now old) (now new) (now keys) (now links) (length (now marks)) count × (0 < count) × Room count (now order) (now numbers) ⌝ }
+    ensures { λ r. ⌜ Writes (relatedIn k (contractIn (now (old .entry))) (contractIn (now (new .entry))) (now (keys .entry)) (now (links .entry)) count (length (now (plan .entry)))) r (now (plan .entry)) (now (plan .exit)) ⌝ }
+{
+    let rounds = rounds::settle(old, new, keys, links, marks, count as usize);
+    if marks[0] != 0 {
+        return with_counts(12, count, 0, rounds, 0);
+    }
+    emit(k, old, links, marks, order, numbers, plan, count, rounds)
+}
+
+// 11, or what follows: two service sheets over the same names, and k at most 3.
+fn connect_checked(
+    k: u8,
+    old: &[u8],
+    new: &[u8],
+    keys: &mut [u64],
+    links: &mut [u16],
+    marks: &mut [u16],
+    order: &mut [u16],
+    numbers: &mut [u16],
+    plan: &mut [u8],
+) -> Answer
+    requires { ⌜ IsSheet (now old) × IsSheet (now new) × (k ≤ 3) ⌝ }
+    ensures { λ r. ⌜ Writes (connected k (contractIn (now (old .entry))) (contractIn (now (new .entry))) (limitOf (recordsOf (length (now (keys .entry))) (length (now (links .entry))) (length (now (marks .entry))) (length (now (order .entry))) (length (now (numbers .entry))))) (length (now (plan .entry)))) r (now (plan .entry)) (now (plan .exit)) ⌝ }
+{
+    let limit = smaller(
+        records(
+            keys.len(),
+            links.len(),
+            marks.len(),
+            order.len(),
+            numbers.len(),
+        ),
+        4096,
+    );
+    match reached::explore(old, new, k, limit, keys, links) {
+        Reach::Over => refusal(11, 0, 0),
+        Reach::Whole(count) => relate(k, old, new, keys, links, marks, order, numbers, plan, count),
+    }
+}
+
+// Connects the contracts of two sheets with buffers of rank k. The lists are the work table: a record has a key, 42 links, a mark, a
+// place in the plan's order and a plan number.
+pub fn connect(
+    k: u8,
+    old: &[u8],
+    new: &[u8],
+    keys: &mut [u64],
+    links: &mut [u16],
+    marks: &mut [u16],
+    order: &mut [u16],
+    numbers: &mut [u16],
+    plan: &mut [u8],
+) -> Answer
+    ensures answered { λ r. ⌜ Writes (outcomeOf (recordsOf (length (now (keys .entry))) (length (now (links .entry))) (length (now (marks .entry))) (length (now (order .entry))) (length (now (numbers .entry)))) (length (now (plan .entry))) k (now (old .entry)) (now (new .entry))) r (now (plan .entry)) (now (plan .exit)) ⌝ }
+    ensures keys { λ r. ⌜ now (keys .exit) ≡ afterwards (r .number) (now (keys .entry)) ⌝ }
+    ensures links { λ r. ⌜ now (links .exit) ≡ afterwards (r .number) (now (links .entry)) ⌝ }
+    ensures marks { λ r. ⌜ now (marks .exit) ≡ afterwards (r .number) (now (marks .entry)) ⌝ }
+    ensures order { λ r. ⌜ now (order .exit) ≡ afterwards (r .number) (now (order .entry)) ⌝ }
+    ensures numbers { λ r. ⌜ now (numbers .exit) ≡ afterwards (r .number) (now (numbers .entry)) ⌝ }
+{
+    match pair::check_pair(0, 0, old, new) {
+        Pair::Refused(number, sheet, state, offset) => refusal(number, sheet, state),
+        Pair::Good => {
+            if 3 < k {
+                return refusal(10, 0, 0);
+            }
+            let answer = connect_checked(k, old, new, keys, links, marks, order, numbers, plan);
+            clear_keys(keys);
+            clear(links);
+            clear(marks);
+            clear(order);
+            clear(numbers);
+            answer
+        }
+    }
 }
 
 // All numbers of a list become 0.

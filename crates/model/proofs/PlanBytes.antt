@@ -45,11 +45,11 @@ at-low b i x h = omega (arith, at-head b i (x % 256) (x / 256 % 256 ∷ []) h, a
 at-word : (b : List ℕ) (i x : ℕ) → At b i (le16 x) → x < 65536 → word b i ≡ x
 at-word b i x h l = omega (arith, at-low b i x h)
 
-length-16 : (x : ℕ) → length (le16 x) ≡ 2
+pub length-16 : (x : ℕ) → length (le16 x) ≡ 2
 unfolding le16
 length-16 x = refl
 
-length-32 : (x : ℕ) → length (le32 x) ≡ 4
+pub length-32 : (x : ℕ) → length (le32 x) ≡ 4
 unfolding le32 le16
 length-32 x = refl
 
@@ -116,8 +116,12 @@ module _ (b : List ℕ) (index count n : ℕ) (small : index < 4294967296) (few 
       (g r (List·Memᴰ·head refl))))
 
 -- a plan
-module _ (n k : ℕ) (rs : List (List Move)) (n-ok : n ≤ 7) (k-ok : k ≤ 3) (some-rows : 1 ≤ length rs) (few : length rs ≤ 4096)
-    (short : length (rowsBytes rs) < 4294967296) (good : (r : List Move) → List·Memᴰ r rs → T (goodRow n (length rs) r)) where
+pub length-index : (i : ℕ) (l : List (List Move)) → length (indexBytes i l) ≡ 4 * length l
+unfolding indexBytes
+length-index i [] = omega arith
+length-index i (r ∷ l) = omega (arith, length-append (le32 i) (indexBytes (i + length (rowBytes r)) l), length-32 i, length-index (i + length (rowBytes r)) l)
+
+module _ (n k : ℕ) (rs : List (List Move)) where
   abbrev bytes : List ℕ
   bytes = planBytes n k rs
 
@@ -131,15 +135,10 @@ module _ (n k : ℕ) (rs : List (List Move)) (n-ok : n ≤ 7) (k-ok : k ≤ 3) (
   abbrev tp : List ℕ
   tp = le32 (length rp) ++ (le16 (length rs) ++ n ∷ k ∷ [])
 
-  length-index : (i : ℕ) (l : List (List Move)) → length (indexBytes i l) ≡ 4 * length l
-  unfolding indexBytes
-  length-index i [] = omega arith
-  length-index i (r ∷ l) = omega (arith, length-append (le32 i) (indexBytes (i + length (rowBytes r)) l), length-32 i, length-index (i + length (rowBytes r)) l)
-
   length-trailer : length tp ≡ 8
   length-trailer = omega (arith, length-append (le32 (length rp)) (le16 (length rs) ++ n ∷ k ∷ []), length-append (le16 (length rs)) (n ∷ k ∷ []), length-32 (length rp), length-16 (length rs))
 
-  length-plan : length bytes ≡ length rp + 4 * length rs + 8
+  pub length-plan : length bytes ≡ length rp + 4 * length rs + 8
   unfolding planBytes
   length-plan = omega (arith, length-append rp (ip ++ tp), length-append ip tp, length-trailer, length-index 0 rs)
 
@@ -168,29 +167,31 @@ module _ (n k : ℕ) (rs : List (List Move)) (n-ok : n ≤ 7) (k-ok : k ≤ 3) (
       at-cast bytes (length bytes - 4 + length (le16 (length rs))) (length bytes - 2) (n ∷ k ∷ []) (omega (arith, length-plan, length-16 (length rs)))
       (at-right bytes (length bytes - 4) (le16 (length rs)) (n ∷ k ∷ []) at-counts)
 
-  read-parts : readWith bytes (length rp) (length rs) n k ≡ some (record { n = n; k = k; rows = rs })
-  unfolding readWith
-  read-parts =
-      let rows : readRows bytes (length rp) (length rs) n (length rs) 0 0 ≡ some rs =
-      back-rows bytes (length rp) (length rs) n short few rs 0 0 good at-rows
-      (at-cast bytes (length rp) (length rp + 4 * 0) ip (omega arith) at-index) (omega arith) in
-      rw (
-        rows,
-        le-leb 8 (length bytes) (omega (arith, length-plan)),
-        le-leb 1 (length rs) some-rows,
-        le-leb (length rs) 4096 few,
-        le-leb n 7 n-ok,
-        le-leb k 3 k-ok,
-        eq-eqb (length rp + 4 * length rs + 8) (length bytes) (sym length-plan),
-      )
+  module _ (n-ok : n ≤ 7) (k-ok : k ≤ 3) (some-rows : 1 ≤ length rs) (few : length rs ≤ 4096)
+      (short : length (rowsBytes rs) < 4294967296) (good : (r : List Move) → List·Memᴰ r rs → T (goodRow n (length rs) r)) where
+    read-parts : readWith bytes (length rp) (length rs) n k ≡ some (record { n = n; k = k; rows = rs })
+    unfolding readWith
+    read-parts =
+        let rows : readRows bytes (length rp) (length rs) n (length rs) 0 0 ≡ some rs =
+        back-rows bytes (length rp) (length rs) n short few rs 0 0 good at-rows
+        (at-cast bytes (length rp) (length rp + 4 * 0) ip (omega arith) at-index) (omega arith) in
+        rw (
+          rows,
+          le-leb 8 (length bytes) (omega (arith, length-plan)),
+          le-leb 1 (length rs) some-rows,
+          le-leb (length rs) 4096 few,
+          le-leb n 7 n-ok,
+          le-leb k 3 k-ok,
+          eq-eqb (length rp + 4 * length rs + 8) (length bytes) (sym length-plan),
+        )
 
-  pub plan-read-back : readPlan bytes ≡ some (record { n = n; k = k; rows = rs })
-  unfolding readPlan
-  plan-read-back =
-      let i : dword bytes (length bytes - 8) ≡ length rp = at-dword bytes (length bytes - 8) (length rp) (at-left bytes (length bytes - 8) (le32 (length rp)) (le16 (length rs) ++ n ∷ k ∷ []) at-trailer) short in
-      let c : word bytes (length bytes - 4) ≡ length rs = at-word bytes (length bytes - 4) (length rs) (at-left bytes (length bytes - 4) (le16 (length rs)) (n ∷ k ∷ []) at-counts) (omega arith) in
-      let x : byte bytes (length bytes - 2) ≡ n = at-head bytes (length bytes - 2) n (k ∷ []) at-n in
-      let y : byte bytes (length bytes - 1) ≡ k =
-      at-head bytes (length bytes - 1) k []
-      (at-cast bytes (length bytes - 2 + 1) (length bytes - 1) (k ∷ []) (omega (arith, length-plan)) (at-tail bytes (length bytes - 2) n (k ∷ []) at-n)) in
-      rw (i, c, x, y) read-parts
+    pub plan-read-back : readPlan bytes ≡ some (record { n = n; k = k; rows = rs })
+    unfolding readPlan
+    plan-read-back =
+        let i : dword bytes (length bytes - 8) ≡ length rp = at-dword bytes (length bytes - 8) (length rp) (at-left bytes (length bytes - 8) (le32 (length rp)) (le16 (length rs) ++ n ∷ k ∷ []) at-trailer) short in
+        let c : word bytes (length bytes - 4) ≡ length rs = at-word bytes (length bytes - 4) (length rs) (at-left bytes (length bytes - 4) (le16 (length rs)) (n ∷ k ∷ []) at-counts) (omega arith) in
+        let x : byte bytes (length bytes - 2) ≡ n = at-head bytes (length bytes - 2) n (k ∷ []) at-n in
+        let y : byte bytes (length bytes - 1) ≡ k =
+        at-head bytes (length bytes - 1) k []
+        (at-cast bytes (length bytes - 2 + 1) (length bytes - 1) (k ∷ []) (omega (arith, length-plan)) (at-tail bytes (length bytes - 2) n (k ∷ []) at-n)) in
+        rw (i, c, x, y) read-parts

@@ -13,6 +13,11 @@ pub length-front : (w xs : List ℕ) → length w ≤ length xs → length (fron
 unfolding front
 length-front w xs h = simp (length-append, length-drop) (omega arith)
 
+-- nothing written
+pub front-none : (xs : List ℕ) → front [] xs ≡ xs
+unfolding front
+front-none xs = refl
+
 -- the rest of xs from `at` was lent, and came back with w at its front
 module _ (at : ℕ) (xs w zs : List ℕ) (fits : at + length w ≤ length xs) (e : zs ≡ front w (midOf at (length xs - at) xs)) where
   behind-none : drop (length xs - at) (drop at xs) ≡ []

@@ -1,0 +1,20 @@
+-- What follows the search, over the numbers of situations in the work lists.
+-- Assumes nothing.
+use mathlib.Core.Bool.{cond}
+use mathlib.Core.List.{List, []}
+use Prim.Native.Nat.{ℕ}
+use lib.Dec.{eqb}
+use Rattle.model.specs.Contract.{Contract}
+use Rattle.model.specs.Situation.{codes}
+use Rattle.model.specs.Search.{member}
+use Rattle.model.specs.Plan.{planRows}
+use Rattle.model.specs.Connect.{Outcome, counted, emitted}
+use Rattle.table.specs.Links.{nextIn}
+use Rattle.rounds.specs.Settled.{settledIn}
+
+-- 12, "the start is removed", or 13 or acceptance: `related` of the model, for the situations that the lists hold
+unfoldable pub relatedIn : (k : ℕ) → Contract → Contract → (keys links : List ℕ) → (count room : ℕ) → Outcome
+relatedIn k σ τ keys links count room =
+    let left = settledIn σ τ keys links count in
+    cond (member eqb 0 (left .kept)) (emitted k σ τ room count (left .rounds) (planRows eqb codes (nextIn links) (left .kept) 0))
+    (counted 12 count 0 (left .rounds) [])

@@ -1,0 +1,51 @@
+//! A second implementation of document 01's connecting, stepping and client check, written from the document
+//! and for speed. It shares nothing with the crates: the benchmark measures them against it, and compares the
+//! two before it measures.
+#![forbid(unsafe_code)]
+
+mod client;
+mod connect;
+mod index;
+mod numbering;
+mod plan;
+mod reach;
+mod rounds;
+mod sheet;
+mod situation;
+
+pub use client::complies;
+pub use connect::Workspace;
+pub use plan::step;
+
+/// The most situations that a call may reach, whatever is lent.
+pub const MOST_SITUATIONS: usize = 4096;
+
+/// The length of the longest plan: 4,096 rows of 42 moves.
+pub const LONGEST_PLAN: usize = MOST_SITUATIONS * (1 + 42 * 3) + 4 * MOST_SITUATIONS + 8;
+
+/// What connecting answers: 0 or the refusal's number, the sheet and the state that it carries, the counts, and
+/// the plan's length.
+#[derive(Clone, Copy, Debug, Default, PartialEq, Eq)]
+pub struct Answer {
+    pub number: u8,
+    pub sheet: u8,
+    pub state: u8,
+    pub situations: u16,
+    pub states: u16,
+    pub rounds: u16,
+    pub length: u32,
+}
+
+/// The number of a refusal, and the sheet and the state that it carries.
+#[derive(Clone, Copy, Debug, PartialEq, Eq)]
+pub(crate) struct Refusal {
+    pub number: u8,
+    pub sheet: u8,
+    pub state: u8,
+}
+
+impl From<Refusal> for Answer {
+    fn from(refusal: Refusal) -> Answer {
+        Answer { number: refusal.number, sheet: refusal.sheet, state: refusal.state, ..Answer::default() }
+    }
+}

@@ -1,0 +1,55 @@
+//! The files of inputs that corpus.py writes.
+
+use crate::connector::Call;
+use std::path::Path;
+
+pub struct Input {
+    pub name: String,
+    k: u8,
+    old: Vec<u8>,
+    new: Vec<u8>,
+    pub records: usize,
+    pub room: usize,
+}
+
+impl Input {
+    pub fn call(&self) -> Call<'_> {
+        Call { k: self.k, old: &self.old, new: &self.new, records: self.records }
+    }
+}
+
+/// The rest of a file.
+struct Rest<'a>(&'a [u8]);
+
+impl Rest<'_> {
+    fn bytes(&mut self, count: usize) -> Vec<u8> {
+        let (front, rest) = self.0.split_at(count);
+        self.0 = rest;
+        front.to_vec()
+    }
+
+    fn number(&mut self, width: usize) -> usize {
+        self.bytes(width).iter().rev().fold(0, |number, byte| number << 8 | usize::from(*byte))
+    }
+
+    fn measured(&mut self, width: usize) -> Vec<u8> {
+        let length = self.number(width);
+        self.bytes(length)
+    }
+
+    fn input(&mut self) -> Input {
+        let name = String::from_utf8(self.measured(1)).expect("a name in UTF-8");
+        let (records, room, k) = (self.number(2), self.number(4), self.number(1) as u8);
+        Input { name, k, old: self.measured(2), new: self.measured(2), records, room }
+    }
+}
+
+pub fn read(path: &Path) -> Vec<Input> {
+    let data = std::fs::read(path).unwrap_or_else(|error| panic!("{}: {error}", path.display()));
+    let mut rest = Rest(&data);
+    let mut inputs = Vec::new();
+    while !rest.0.is_empty() {
+        inputs.push(rest.input());
+    }
+    inputs
+}

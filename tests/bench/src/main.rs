@@ -1,0 +1,117 @@
+//! `bench FOLDER` compares the connectors on all inputs of the folder, then times them on the benchmark's;
+//! `bench FOLDER describe` says what the benchmark's inputs are.
+
+mod connector;
+mod corpus;
+#[cfg(feature = "product")]
+mod product;
+mod timing;
+
+use baseline::{Answer, LONGEST_PLAN};
+use connector::{connectors, Connector};
+use corpus::Input;
+use std::path::Path;
+
+type Connectors = Vec<(&'static str, Box<dyn Connector>)>;
+
+const FILLING: u8 = 0xEE;
+
+/// What a connector makes of an input: its answer, every byte of the lent plan, and whether the lent records
+/// are as they are due.
+fn outcome(connector: &mut dyn Connector, input: &Input) -> (Answer, Vec<u8>, bool) {
+    let mut plan = vec![FILLING; input.room];
+    let (answer, due) = connector.tried(&input.call(), &mut plan);
+    (answer, plan, due)
+}
+
+/// The baseline's answers; stops the program where another connector differs.
+fn compared(connectors: &mut Connectors, inputs: &[Input]) -> Vec<Answer> {
+    let mut answers = Vec::new();
+    for (place, input) in inputs.iter().enumerate() {
+        let (_, first) = &mut connectors[0];
+        let expected = outcome(first.as_mut(), input);
+        for (who, connector) in &mut connectors[1..] {
+            let got = outcome(connector.as_mut(), input);
+            if got != expected {
+                eprintln!("input {place} {:?}: {who} {:?}, the baseline {:?}", input.name, got.0, expected.0);
+                eprintln!("plans alike: {}; records as due: {}", got.1 == expected.1, got.2);
+                std::process::exit(1);
+            }
+        }
+        answers.push(expected.0);
+    }
+    answers
+}
+
+/// Number, situations, plan states, rounds and the plan's moves.
+fn figures(answer: &Answer) -> String {
+    let states = usize::from(answer.states);
+    let moves = if answer.number == 0 { (answer.length as usize - 8 - 5 * states) / 3 } else { 0 };
+    format!("{:6} {:10} {:6} {:6} {:6}", answer.number, answer.situations, states, answer.rounds, moves)
+}
+
+const FIGURES: &str = "number situations states rounds  moves";
+
+/// Inputs of a family are called by it, a comma and their size.
+fn family(input: &Input) -> Option<&str> {
+    let (family, size) = input.name.split_once(", ")?;
+    size.parse::<u32>().ok().map(|_| family)
+}
+
+/// How the cost of a family's largest input compares with that of its smallest.
+fn growth(connectors: &Connectors, timed: &[(&Input, Answer, Vec<f64>)]) {
+    for name in ["dense", "ring", "wide ring"] {
+        let mut members = timed.iter().filter(|(input, ..)| family(input) == Some(name));
+        let (Some((_, small, before)), Some((_, large, after))) = (members.next(), members.next_back()) else {
+            continue;
+        };
+        let times = f64::from(large.situations) / f64::from(small.situations);
+        print!("{name}: {} to {} situations, x {times:.1}; cost", small.situations, large.situations);
+        for ((who, _), (before, after)) in connectors.iter().zip(before.iter().zip(after)) {
+            print!(" {who} x {:.1}", after / before);
+        }
+        println!();
+    }
+}
+
+fn timed(connectors: &mut Connectors, inputs: &[Input], answers: &[Answer]) {
+    let mut plan = vec![FILLING; LONGEST_PLAN];
+    print!("{:34} {FIGURES}", "input");
+    for (who, _) in connectors.iter() {
+        print!(" {:>12}", format!("{who}, us"));
+    }
+    println!("{}", if connectors.len() > 1 { "   ratio" } else { "" });
+    let mut rows = Vec::new();
+    for (input, answer) in inputs.iter().zip(answers) {
+        let medians = timing::medians(connectors, input, &mut plan);
+        print!("{:34} {}", input.name, figures(answer));
+        for median in &medians {
+            print!(" {:12.3}", median / 1000.0);
+        }
+        for median in &medians[1..] {
+            print!(" {:7.2}", median / medians[0]);
+        }
+        println!();
+        rows.push((input, *answer, medians));
+    }
+    growth(connectors, &rows);
+}
+
+fn main() {
+    let arguments: Vec<String> = std::env::args().skip(1).collect();
+    let folder = Path::new(arguments.first().expect("a folder with the inputs"));
+    let (inputs, random) = (corpus::read(&folder.join("inputs")), corpus::read(&folder.join("random")));
+    let most = inputs.iter().chain(&random).map(|input| input.records).max().unwrap_or(0);
+    let mut connectors = connectors(most);
+    let answers = compared(&mut connectors, &inputs);
+    if arguments.get(1).is_some_and(|word| word == "describe") {
+        println!("{:34} {FIGURES}", "input");
+        for (input, answer) in inputs.iter().zip(&answers) {
+            println!("{:34} {}", input.name, figures(answer));
+        }
+        return;
+    }
+    compared(&mut connectors, &random);
+    println!("compared: {} inputs, {} random pairs", inputs.len(), random.len());
+    timed(&mut connectors, &inputs, &answers);
+}
