@@ -1,6 +1,7 @@
 // Answers the cases that are stored as records on standard input. tests/reference makes the records and says what is to be printed for
 // each; its README has the form of every kind.
 mod clients;
+mod pairs;
 mod runs;
 mod sheets;
 mod standstills;
@@ -9,6 +10,7 @@ mod steps;
 // What the records hold.
 pub enum Kind {
     Sheets,
+    Pairs,
     Steps,
     Clients,
     Runs,
@@ -17,6 +19,7 @@ pub enum Kind {
 fn answer(kind: Kind, record: &[u8]) {
     match kind {
         Kind::Sheets => sheets::answer(record),
+        Kind::Pairs => pairs::answer(record),
         Kind::Steps => steps::answer(record),
         Kind::Clients => clients::answer(record),
         Kind::Runs => runs::answer(record),
