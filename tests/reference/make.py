@@ -15,6 +15,8 @@ from collections import Counter
 from pathlib import Path
 
 from . import client_cases, pair_cases, run_cases, sheet_cases, step_cases
+from .program import printed
+from .program_inputs import stored_inputs
 from .records import packed
 
 KINDS = {
@@ -26,7 +28,13 @@ KINDS = {
 }
 
 #: The kinds that a test program runs, and its crate.
-STORED = {"sheets": Path("crates/sheet_run")}
+STORED = {
+    "sheets": Path("crates/sheet_run"),
+    "pairs": Path("crates/pair_run"),
+    "steps": Path("crates/step_run"),
+    "clients": Path("crates/client_run"),
+    "runs": Path("crates/walk_run"),
+}
 
 
 def files(kind):
@@ -36,16 +44,24 @@ def files(kind):
     return {"stdin": packed(records), "stdout": lines.encode()}
 
 
-def write(kind, folder):
+def stored():
+    """Every crate with stored files, and what these hold."""
+    for kind, folder in STORED.items():
+        yield folder, files(kind)
+    for crate, data in stored_inputs().items():
+        yield Path("crates") / crate, {"stdin": data, "stdout": printed(data).encode()}
+
+
+def write(folder, contents):
     folder.mkdir(parents=True, exist_ok=True)
-    for name, data in files(kind).items():
+    for name, data in contents.items():
         (folder / name).write_bytes(data)
         print(f"{folder / name}: {len(data)} bytes")
 
 
-def differing(kind, folder):
+def differing(folder, contents):
     """The stored files that are not as they would be written."""
-    for name, data in files(kind).items():
+    for name, data in contents.items():
         path = folder / name
         if not path.is_file() or path.read_bytes() != data:
             yield path
@@ -67,10 +83,10 @@ def show(kind, number):
 def main(arguments):
     match arguments:
         case []:
-            for kind, folder in STORED.items():
-                write(kind, folder)
+            for folder, contents in stored():
+                write(folder, contents)
         case ["check"]:
-            wrong = [path for kind, folder in STORED.items() for path in differing(kind, folder)]
+            wrong = [path for folder, contents in stored() for path in differing(folder, contents)]
             for path in wrong:
                 print(f"{path}: not as it would be written")
             return 1 if wrong else 0
@@ -79,7 +95,7 @@ def main(arguments):
         case ["show", kind, number] if kind in KINDS and number.isdigit():
             show(kind, int(number))
         case ["write", kind, folder] if kind in KINDS:
-            write(kind, Path(folder))
+            write(Path(folder), files(kind))
         case _:
             print(__doc__)
             return 2

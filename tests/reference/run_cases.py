@@ -110,7 +110,7 @@ def random_attempts(chance, client, service, plan, length, service_first):
 
 def cases():
     chance = Chance(SEED)
-    for i in range(400):
+    for i in range(520):
         system = small_system(chance)
         attempts = random_attempts(chance, *system, chance.pick([0, 1, 4, 12, 25]), chance.one_in(2))
         yield record(f"run {i}", *system, attempts)

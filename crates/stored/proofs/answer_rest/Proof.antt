@@ -1,22 +1,22 @@
--- `sheet_run::answer_all` is safe and ends: the measure is the number of turns that are left, and the lent space keeps its length.
+-- `stored::answer_rest` is safe and ends: the measure is the number of turns that are left, and the lent space keeps its length.
 -- Assumes nothing.
 use mathlib.Core.Path.{_≡_}
 use borrow.Author.Needs.{needs}
 use lib.ListN.{length}
-use Rattle.sheet_run.proofs.answer_all.Statement.{statement}
-use Rattle.sheet_run.proofs.answer_all.Tie as tie
+use Rattle.stored.proofs.answer_rest.Statement.{statement}
+use Rattle.stored.proofs.answer_rest.Tie as tie
 
 abbrev Inv-loop : tie.InvT-loop
-Inv-loop space₀ turns₀ space turns = length space ≡ length space₀
+Inv-loop kind space₀ turns₀ space turns = length space ≡ length space₀
 
 abbrev μ-loop : tie.MeasureT-loop
-μ-loop space₀ turns₀ space turns = turns
+μ-loop kind space₀ turns₀ space turns = turns
 
 loop-holds : tie.Need-loop-holds Inv-loop μ-loop
 loop-holds c = search needs
 
-answer-record-requires : tie.Need-answer-record-requires Inv-loop μ-loop
-answer-record-requires c κs = search needs
+answer-next-requires : tie.Need-answer-next-requires Inv-loop μ-loop
+answer-next-requires c κs = search needs
 
 sub-turns : tie.Need-sub-turns Inv-loop μ-loop
 sub-turns c = search needs
@@ -39,14 +39,14 @@ same-length-2 c = search needs
 returns-2 : tie.Need-returns-2 Inv-loop μ-loop
 returns-2 c = search needs
 
-pub answer-all-spec : {M : Type 1} → statement M
-answer-all-spec =
+pub answer-rest-spec : {M : Type 1} → statement M
+answer-rest-spec =
     tie.close
     (tie.spec
     Inv-loop
     μ-loop
     loop-holds
-    answer-record-requires
+    answer-next-requires
     sub-turns
     loop-less
     loop-again
