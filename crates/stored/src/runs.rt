@@ -1,7 +1,12 @@
 // A record is a client sheet, a service sheet and a plan, each behind its length, and attempts of five bytes: R and S (16 bits each) and a
 // code. Its lines: for each attempt 1 for a move or 0, and number and next state of stepping; then the state after the list.
-ghost use Prim.Native.Nat.{_+_, _≤_, _<_};
-ghost use lib.ListN.{length};
+ghost use mathlib.Core.Path.{_≡_};
+ghost use Prim.Native.Nat.{_<_};
+ghost use Rattle.model.specs.Contract.{partner, state};
+ghost use Rattle.model.specs.Sheet.{contractIn};
+ghost use Rattle.model.specs.Situation.{kindOf};
+ghost use Rattle.model.specs.Test.{listed};
+ghost use Rattle.model.specs.Run.{need};
 ghost use Rattle.stored.specs.Run.{At};
 use crate::standstills::Standstills;
 use crate::standstills::count_standstills;
@@ -17,13 +22,15 @@ pub struct Run {
 
 fn partner(j: u8) -> u8
     requires { ⌜ j < 14 ⌝ }
-    ensures { λ r. ⌜ r < 14 ⌝ }
+    ensures { λ r. ⌜ (r ≡ partner j) × (r < 14) ⌝ }
 {
     if j < 7 { j + 7 } else { j - 7 }
 }
 
 // Whether the masks have what a code needs.
-pub fn need_met(R: u16, S: u16, code: u8) -> bool {
+pub fn need_met(R: u16, S: u16, code: u8) -> bool
+    ensures { λ r. ⌜ r ≡ need R S (kindOf code) ⌝ }
+{
     match code {
         0..=13 => sheet::has_bit(S, code) && sheet::has_bit(R, partner(code)),
         16..=29 => sheet::has_bit(R, partner(code - 16)),
@@ -35,6 +42,7 @@ pub fn need_met(R: u16, S: u16, code: u8) -> bool {
 // Whether a mask is a ready set of state q.
 fn is_ready(b: &[u8], q: u8, mask: u16) -> bool
     requires { ⌜ At (now b) q ⌝ }
+    ensures { λ r. ⌜ r ≡ listed (state (contractIn (now (b .entry))) q .ready) mask ⌝ }
 {
     let count = sheet::ready_count(b, q);
     let mut i: u8 = 0;

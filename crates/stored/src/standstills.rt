@@ -1,5 +1,5 @@
 // The standstills of a run: the choices under which no code can be made.
-ghost use Prim.Native.Nat.{_≤_, _*_};
+ghost use Prim.Native.Nat.{_≤_};
 ghost use Rattle.stored.specs.Run.{At};
 use crate::runs::need_met;
 

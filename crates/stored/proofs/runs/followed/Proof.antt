@@ -1,7 +1,6 @@
 -- `stored::runs::followed` is safe and ends: the loop passes the attempts five bytes at a time, and the states stay states of the sheets.
 -- Assumes nothing.
 use Prim.Native.Nat.{_≤_, _-_}
-use native.Mathlib.Omega.{arith}
 use lib.ListN.{length}
 use borrow.Author.Needs.{needs}
 use Rattle.stored.specs.Run.{At}

@@ -1,17 +1,24 @@
--- `stored::runs::is_ready` is safe and ends: the loop passes the places of the state's ready sets.
+-- `stored::runs::is_ready` meets its contract. The loop's invariant: no ready set before place i is the mask, so the rest decides.
 -- Assumes nothing.
-use mathlib.Core.Path.{_≡_}
+use mathlib.Core.Path.{_≡_, refl, sym}
 use Prim.Native.Nat.{_≤_, _-_}
 use native.Mathlib.Omega.{arith}
-use lib.ListN.{length}
+use lib.Dec.{eqb}
+use lib.ListN.{length, drop}
+use borrow.Author.Tests.{eq-eqb, ne-eqb}
 use borrow.Author.Needs.{needs}
+use Rattle.model.specs.Lists.{any}
 use Rattle.model.specs.Contract.{state}
 use Rattle.model.specs.Sheet.{contractIn}
+use Rattle.model.specs.Test.{listed}
+use Rattle.model.proofs.Walk.{any-found, any-onward, any-ended}
 use Rattle.stored.proofs.runs.is_ready.Statement.{statement}
 use Rattle.stored.proofs.runs.is_ready.Tie as tie
 
 abbrev Inv-loop : tie.InvT-loop
-Inv-loop b q mask count i₀ i = (i ≤ count) × (count ≡ length (state (contractIn b) q .ready))
+Inv-loop b q mask count i₀ i =
+    let ready = state (contractIn b) q .ready in
+    (i ≤ count) × (count ≡ length ready) × (any (eqb mask) (drop i ready) ≡ any (eqb mask) ready)
 
 abbrev μ-loop : tie.MeasureT-loop
 μ-loop b q mask count i₀ i = count - i
@@ -20,7 +27,7 @@ ready-count-requires : tie.Need-ready-count-requires Inv-loop μ-loop
 ready-count-requires c κs = search needs
 
 loop-holds : tie.Need-loop-holds Inv-loop μ-loop
-loop-holds c = search needs
+loop-holds c = (omega arith, c .ready-count .ensures, refl)
 
 ready-set-requires : tie.Need-ready-set-requires Inv-loop μ-loop
 ready-set-requires c κs =
@@ -28,7 +35,10 @@ ready-set-requires c κs =
     (given .whole, given .below, omega arith)
 
 returns : tie.Need-returns Inv-loop μ-loop
-returns c = search needs
+unfolding listed
+returns c =
+    let inv = c .before .before .before .loop .inv in
+    any-found _ _ _ _ (omega arith) (c .before .ready-set .ensures) refl (inv .2) (eq-eqb _ _ (sym (c .if1 .taken)))
 
 add-i : tie.Need-add-i Inv-loop μ-loop
 add-i c = search needs
@@ -37,10 +47,13 @@ loop-less : tie.Need-loop-less Inv-loop μ-loop
 loop-less c = search needs
 
 loop-again : tie.Need-loop-again Inv-loop μ-loop
-loop-again c = search needs
+loop-again c =
+    let inv = c .before .before .before .loop .inv in
+    (omega arith, inv .1, any-onward _ _ _ _ (omega arith) (c .before .ready-set .ensures) refl (inv .2) (ne-eqb _ _ (λ e. c .if1 .left (sym e))))
 
 returns-2 : tie.Need-returns-2 Inv-loop μ-loop
-returns-2 c = search needs
+unfolding listed
+returns-2 c = any-ended _ _ (c .before .loop .i) (c .before .loop .inv .2) (omega arith)
 
 pub is-ready-spec : {M : Type 1} → statement M
 is-ready-spec =

@@ -1,7 +1,6 @@
 -- `stored::standstills::is_standstill` is safe and ends: the loop passes the codes below 46.
 -- Assumes nothing.
 use Prim.Native.Nat.{_≤_, _-_}
-use native.Mathlib.Omega.{arith}
 use borrow.Author.Needs.{needs}
 use Rattle.stored.proofs.standstills.is_standstill.Statement.{statement}
 use Rattle.stored.proofs.standstills.is_standstill.Tie as tie
