@@ -18,6 +18,7 @@ use Rattle.model.proofs.Weak.{is-reached, rank-reached}
 use Rattle.model.proofs.Moves.{Within, next-within}
 use Rattle.model.proofs.Sheet.{WellFormed}
 use Rattle.sheet.specs.Whole.{IsSheet}
+use Rattle.sheet.proofs.Whole.{sheet-formed}
 use Rattle.plan.proofs.Front.{front-none}
 use Rattle.table.specs.Keys.{KeysWithin}
 use Rattle.table.specs.Links.{LinksWithin}
@@ -25,7 +26,6 @@ use Rattle.table.proofs.Keys.{Fits}
 use Rattle.reached.specs.Reached.{reachBy, reachOf, Explored}
 use Rattle.reached.specs.declared.Reach.{Reach}
 use Rattle.reached.specs.declared.Reach.the-variants as R
-use Rattle.reached.proofs.Within.{sheet-formed}
 use Rattle.rounds.specs.Settled.{WorkTable}
 use Rattle.numbering.specs.Numbered.{Room}
 use Rattle.connect.specs.Answers.{answerOf, recordsOf, Writes}

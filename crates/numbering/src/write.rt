@@ -5,7 +5,6 @@ ghost use mathlib.Core.List.{List·Memᴰ};
 ghost use Prim.Native.Nat.{ℕ, _-_, _*_, _≤_, _<_};
 ghost use lib.ListN.{length, getD};
 ghost use Rattle.model.specs.Plan.{moveBytes, rowBytes, rowsBytes, indexBytes, planBytes};
-ghost use Rattle.table.specs.Links.{codeAt};
 ghost use Rattle.plan.specs.Front.{front};
 ghost use Rattle.numbering.specs.Kept.{statesIn, rowIn, rowsIn, WorkLists};
 ghost use Rattle.numbering.specs.Numbered.{InOrder, Numbers, Numbered, moveBy};
@@ -24,20 +23,6 @@ pub fn plan_length(links: &[u16], marks: &[u16], order: &[u16], count: usize, st
     rows + 4 * (states as u32) + 8
 }
 
-// The code of a slot.
-fn code_at(slot: usize) -> u8
-    requires { ⌜ slot < 42 ⌝ }
-    ensures { λ r. ⌜ r ≡ codeAt slot ⌝ }
-{
-    if slot < 14 {
-        return slot as u8;
-    }
-    if slot < 28 {
-        return (slot + 2) as u8;
-    }
-    (slot + 4) as u8
-}
-
 // The move by the link of a slot, at the front of what is lent: its length, 0 where there is no link.
 fn write_move(out: &mut [u8], numbers: &[u16], slot: usize, link: u16) -> usize
     requires { ⌜ (slot < 42) × (link ≤ length (now numbers)) × (0 < link → 0 < getD (now numbers) (link - 1) 0) × (length (moveBytes (moveBy (now numbers) slot link)) ≤ length (now out)) ⌝ }
@@ -47,7 +32,7 @@ fn write_move(out: &mut [u8], numbers: &[u16], slot: usize, link: u16) -> usize
         return 0;
     }
     let state = numbers[(link - 1) as usize] - 1;
-    plan::write::put_move(out, code_at(slot), state);
+    plan::write::put_move(out, table::code_at(slot as u8), state);
     3
 }
 

@@ -1,6 +1,6 @@
 -- What stands in bytes that are a sheet: trailer, length and rows, each equal to a part of the contract that the model
 -- reads. The laws take the reading backwards, test by test. Assumes nothing.
-use mathlib.Core.Path.{_≡_, refl, sym, ap, subst, _∙_}
+use mathlib.Core.Path.{_≡_, refl, sym, ap, subst, subst⁻¹, _∙_}
 use mathlib.Core.Bool.{true}
 use mathlib.Core.List.{List}
 use Prim.Native.Nat.{ℕ, _+_, _*_, _<_, _≤_}
@@ -11,6 +11,7 @@ use borrow.Author.Tests.{leb-true, eqb-true}
 use Rattle.model.specs.Bytes.{byte, word}
 use Rattle.model.specs.Contract.{State, state, nowhere, name, offers, after}
 use Rattle.model.specs.Sheet.{Reading, Fault, Trailer, Sheet, good, trailer, goodTrailer, readSheet, sheetOf, contractIn, roleIn}
+use Rattle.model.proofs.Sheet.{WellFormed, sheet-well-formed}
 use Rattle.sheet.specs.Union.{unionOf, onesBelow}
 use Rattle.sheet.specs.Whole.{IsSheet, rowStart}
 use Rattle.sheet.proofs.Union.{has-union}
@@ -72,6 +73,11 @@ sheet-stands b (s, h) =
     subst (λ (r : Reading Fault Sheet). Stands b (record { contract = sheetOf r .contract; role = sheetOf r .role }))
     (sym h)
     (stands b s h)
+
+-- the contract in bytes that are a sheet is well formed
+pub sheet-formed : (b : List ℕ) → IsSheet b → WellFormed (contractIn b)
+unfolding contractIn sheetOf
+sheet-formed b (s, h) = subst⁻¹ (λ (r : Reading Fault Sheet). WellFormed (sheetOf r .contract)) h (sheet-well-formed b s h)
 
 -- ---- the trailer and the rows
 module _ (b : List ℕ) (whole : IsSheet b) where

@@ -24,6 +24,9 @@ shared-slice-read-state c = search needs
 sub-state-2 : tie.Need-sub-state-2
 sub-state-2 c = omega (arith, c .before .before .before .before .pre .2 (omega arith))
 
+cast-code-at : tie.Need-cast-code-at
+cast-code-at c = search needs
+
 code-at-requires : tie.Need-code-at-requires
 code-at-requires c κs = search needs
 
@@ -46,6 +49,7 @@ write-move-spec =
     mul-state
     shared-slice-read-state
     sub-state-2
+    cast-code-at
     code-at-requires
     put-move-requires
     same-length
