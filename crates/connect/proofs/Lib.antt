@@ -1,5 +1,4 @@
 pub mod Table
-pub mod Cleared
 pub mod Relating
 pub mod Connecting
 pub mod Outcomes

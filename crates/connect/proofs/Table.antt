@@ -19,7 +19,7 @@ use Rattle.model.specs.Search.{at-start, Search, member, addAll, search, search
 use Rattle.model.specs.Rounds.{Settled, settled}
 use Rattle.model.specs.Plan.{planRows}
 use Rattle.model.specs.Connect.{settledOf, rowsFor, counted, emitted, related}
-use Rattle.model.proofs.Lists.{getD-mem}
+use Rattle.model.proofs.Lists.{is-true, getD-mem}
 use Rattle.model.proofs.Actions.{upto-mem}
 use Rattle.model.proofs.Situation.{is-same}
 use Rattle.model.proofs.Search.{Inv, search-inv, search-all, search-front}
@@ -67,10 +67,6 @@ getD-map-in f (x ∷ l) (suc i) d e h = getD-map-in f l i d e (omega arith)
 
 same-yes : (s t : Situation) → s ≡ t → same s t ≡ true
 same-yes s t e = is-true (same s t) (subst (λ (x : Situation). T (same s x)) e (is-same .reflexive s))
-  where
-    is-true : (b : Bool) → T b → b ≡ true
-    is-true true h = refl
-    is-true false h = absurd h
 
 same-no : (s t : Situation) → (s ≡ t → ⊥) → same s t ≡ false
 same-no s t n = is-false (same s t) (λ h. n (is-same .sound s t h))

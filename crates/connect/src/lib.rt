@@ -204,11 +204,8 @@ pub fn connect(
 fn clear(list: &mut [u16])
     ensures { λ _. ⌜ now (list .exit) ≡ map (λ x. 0) (now (list .entry)) ⌝ }
 {
-    let mut i: usize = 0;
-    while i < list.len() {
-        list[i] = 0;
-        i = i + 1;
-    }
+    let count = list.len();
+    table::clear(list, count);
 }
 
 // All keys of a list become 0.

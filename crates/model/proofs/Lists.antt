@@ -34,6 +34,10 @@ pub and-of : (a b : Bool) → T a → T b → T (a && b)
 and-of true b s t = t
 and-of false b s t = absurd s
 
+pub is-true : (b : Bool) → T b → b ≡ true
+is-true true t = refl
+is-true false t = absurd t
+
 pub dec-T : (b : Bool) → T b ⊎ (T b → ⊥)
 dec-T true = inl tt
 dec-T false = inr (λ t. t)

@@ -1,26 +1,22 @@
 -- In bytes that are a plan, row p stands at the place that the index says, and a step looks its code up there.
 -- Assumes nothing.
 use mathlib.Core.Path.{_≡_, refl, sym, ap, subst, _∙_}
-use mathlib.Core.Bool.{Bool, true, false, cond}
+use mathlib.Core.Bool.{true, false, cond}
 use mathlib.Core.List.{List, [], _∷_}
 use mathlib.Core.Option.{some}
 use Prim.Native.Nat.{ℕ, zero, suc, _+_, _-_, _*_, _<_, _≤_}
 use native.Mathlib.Omega.{arith}
 use native.Mathlib.Nat.{zero-add}
 use lib.ListN.{length, getD}
-use lib.Dec.{T, eqb, ltb}
+use lib.Dec.{eqb, ltb}
 use borrow.Author.Tests.{lt-ltb, le-ltb}
 use Rattle.model.specs.Bytes.{byte, word, dword}
 use Rattle.model.specs.Plan.{Move, Plan, held, readMoves, readRows, readWith, readPlan, rowsOf, rowsIn, stepRow, stepIn, stepOf}
-use Rattle.model.proofs.Lists.{cond-some}
+use Rattle.model.proofs.Lists.{is-true, cond-some}
 use Rattle.plan.specs.Layout.{isSome, goodPlace}
 use Rattle.plan.proofs.Answers.{is-some-elim, is-some-not, map-elim}
 use Rattle.plan.proofs.Places.{place-within}
 use Rattle.plan.proofs.Trailer.{test, with-room}
-
-is-true : (t : Bool) → T t → t ≡ true
-is-true true h = refl
-is-true false h = absurd h
 
 module _ (b : List ℕ) (index count n : ℕ) where
   -- the place that the index says for row p

@@ -12,7 +12,8 @@ use Rattle.model.specs.Lists.{keep}
 use Rattle.model.specs.Bytes.{byte, word}
 use Rattle.model.specs.Contract.{State, nowhere, actions, offersIn}
 use Rattle.model.specs.Sheet.{good, Trailer, Row, strayBit, masksFrom, successorsFrom, rowWith, rowAt, statesFrom}
-use Rattle.sheet.proofs.Reading.{good-inj, check-good, then-good, both-true}
+use Rattle.model.proofs.Sheet.{good-injective, then-good}
+use Rattle.sheet.proofs.Reading.{check-true, both-true}
 
 -- masks stand at i
 record MasksStand (b : List ℕ) (t : Trailer) (i count : ℕ) (masks : List ℕ) : Type 0 where
@@ -60,13 +61,13 @@ module _ (b : List ℕ) (t : Trailer) where
       → MasksStand b t i left masks
   unfolding masksFrom
   masks-stand q zero low i masks h =
-      subst (MasksStand b t i zero) (good-inj h)
+      subst (MasksStand b t i zero) (good-injective h)
       (record { size = refl; each = λ k l. absurd (omega arith); clean = λ k l. absurd (omega arith) })
   masks-stand q (suc left) low i masks h =
-      let ascending = check-good _ _ _ h in
-      let clean = check-good _ _ _ (ascending .1) in
+      let ascending = check-true _ _ _ h in
+      let clean = check-true _ _ _ (ascending .1) in
       let rest = then-good _ _ (clean .1) in
-      subst (MasksStand b t i (suc left)) (good-inj (rest .2))
+      subst (MasksStand b t i (suc left)) (good-injective (rest .2))
       (masks-cons i left (rest .0) (not-true _ (clean .0)) (masks-stand q left _ (i + 2) (rest .0) (rest .1)))
 
   successors-cons : (i left : ℕ) (successors : List ℕ) → byte b i < t .count
@@ -84,12 +85,12 @@ module _ (b : List ℕ) (t : Trailer) where
       → SuccessorsStand b t i left successors
   unfolding successorsFrom
   successors-stand q zero i successors h =
-      subst (SuccessorsStand b t i zero) (good-inj h)
+      subst (SuccessorsStand b t i zero) (good-injective h)
       (record { size = refl; each = λ k l. absurd (omega arith); within = λ k l. absurd (omega arith) })
   successors-stand q (suc left) i successors h =
-      let within = check-good _ _ _ h in
+      let within = check-true _ _ _ h in
       let rest = then-good _ _ (within .1) in
-      subst (SuccessorsStand b t i (suc left)) (good-inj (rest .2))
+      subst (SuccessorsStand b t i (suc left)) (good-injective (rest .2))
       (successors-cons i left (rest .0) (ltb-true _ _ (within .0))
       (successors-stand q left (i + 1) (rest .0) (rest .1)))
 
@@ -114,14 +115,14 @@ module _ (b : List ℕ) (t : Trailer) where
       → RowStands b t i (row .state) × (row .behind ≤ t .index)
   unfolding rowAt rowWith
   row-reading q i row h =
-      let present = check-good _ _ _ h in
-      let counted = check-good _ _ _ (present .1) in
+      let present = check-true _ _ _ h in
+      let counted = check-true _ _ _ (present .1) in
       let size = both-true (leb 1 (byte b i)) (leb (byte b i) 8) (counted .0) in
-      let masks = then-good _ _ (check-good _ _ _ (counted .1) .1) in
-      let room = check-good _ _ _ (masks .2) in
+      let masks = then-good _ _ (check-true _ _ _ (counted .1) .1) in
+      let room = check-true _ _ _ (masks .2) in
       let successors = then-good _ _ (room .1) in
       let inside = leb-true _ _ (room .0) in
-      subst (λ (r : Row). RowStands b t i (r .state) × (r .behind ≤ t .index)) (good-inj (successors .2)) (
+      subst (λ (r : Row). RowStands b t i (r .state) × (r .behind ≤ t .index)) (good-injective (successors .2)) (
         row-made i _ (masks .0) (successors .0) (leb-true _ _ (size .0)) (leb-true _ _ (size .1)) refl inside
             (masks-stand q _ _ _ (masks .0) (masks .1))
             (successors-stand q _ _ (successors .0) (successors .1)),
@@ -141,13 +142,13 @@ module _ (b : List ℕ) (t : Trailer) where
       → StatesStand b t q left states
   unfolding statesFrom
   states-stand zero q i states h =
-      subst (StatesStand b t q zero) (good-inj (check-good _ _ _ h .1))
+      subst (StatesStand b t q zero) (good-injective (check-true _ _ _ h .1))
       (record { size = refl; each = λ k l. absurd (omega arith) })
   states-stand (suc left) q i states h =
-      let entry = check-good _ _ _ h in
+      let entry = check-true _ _ _ h in
       let row = then-good _ _ (entry .1) in
       let rest = then-good _ _ (row .2) in
-      subst (StatesStand b t q (suc left)) (good-inj (rest .2))
+      subst (StatesStand b t q (suc left)) (good-injective (rest .2))
       (states-cons q left i (row .0 .state) (rest .0) (eqb-true _ _ (entry .0))
       (row-reading q i (row .0) (row .1) .0)
       (states-stand left (suc q) (row .0 .behind) (rest .0) (rest .1)))

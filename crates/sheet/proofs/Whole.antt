@@ -11,13 +11,13 @@ use borrow.Author.Tests.{leb-true, eqb-true}
 use Rattle.model.specs.Bytes.{byte, word}
 use Rattle.model.specs.Contract.{State, state, nowhere, name, offers, after}
 use Rattle.model.specs.Sheet.{Reading, Fault, Trailer, Sheet, good, trailer, goodTrailer, readSheet, sheetOf, contractIn, roleIn}
-use Rattle.model.proofs.Sheet.{WellFormed, sheet-well-formed}
+use Rattle.model.proofs.Sheet.{WellFormed, good-injective, then-good, sheet-well-formed}
 use Rattle.sheet.specs.Union.{unionOf, onesBelow}
 use Rattle.sheet.specs.Whole.{IsSheet, rowStart}
 use Rattle.sheet.proofs.Union.{has-union}
 use Rattle.sheet.proofs.Ones.{ones-offered, ones-less, ones-place}
 use Rattle.sheet.proofs.Stray.{clean-name, offered-in}
-use Rattle.sheet.proofs.Reading.{good-inj, check-good, then-good, both-true}
+use Rattle.sheet.proofs.Reading.{check-true, both-true}
 use Rattle.sheet.proofs.Rows.{RowStands, StatesStand, states-stand}
 
 -- a trailer whose numbers are in range
@@ -52,11 +52,11 @@ pub record Stands (b : List ℕ) (s : Sheet) : Type 0 where
 stands : (b : List ℕ) (s : Sheet) → readSheet b ≡ good s → Stands b s
 unfolding readSheet
 stands b s h =
-    let sizes = check-good _ _ _ h in
-    let numbers = check-good _ _ _ (sizes .1) in
-    let ends = check-good _ _ _ (numbers .1) in
+    let sizes = check-true _ _ _ h in
+    let numbers = check-true _ _ _ (sizes .1) in
+    let ends = check-true _ _ _ (numbers .1) in
     let states = then-good _ _ (ends .1) in
-    subst (Stands b) (good-inj (states .2))
+    subst (Stands b) (good-injective (states .2))
     (record {
       long = leb-true _ _ (both-true (leb 6 (length b)) (leb (length b) 2118) (sizes .0) .0);
       numbers = trailer-stands (trailer b) (numbers .0);

@@ -1,55 +1,20 @@
--- `connect::clear` meets its contract. The loop's invariant: the first i numbers are cleared.
+-- `connect::clear` meets its contract: the whole list is its front.
 -- Assumes nothing.
-use mathlib.Core.Path.{_≡_, sym, ap, _∙_}
-use Prim.Native.Nat.{ℕ, _-_}
+use mathlib.Core.Path.{_∙_}
 use native.Mathlib.Omega.{arith}
 use borrow.Author.Needs.{needs}
-use mathlib.Core.List.{List}
-use lib.ListN.{length, set, length-set}
-use Rattle.connect.proofs.Cleared.{clearedTo, cleared-none, cleared-step, cleared-length, cleared-all}
+use Rattle.table.proofs.Cleared.{cleared-all}
 use Rattle.connect.proofs.clear.Statement.{statement}
 use Rattle.connect.proofs.clear.Tie as tie
 
-abbrev Inv-loop : tie.InvT-loop
-Inv-loop list₀ i₀ list i = list ≡ clearedTo i list₀
+clear-requires : tie.Need-clear-requires
+clear-requires c κs = search needs
 
-abbrev μ-loop : tie.MeasureT-loop
-μ-loop list₀ i₀ list i = length list - i
+same-length : tie.Need-same-length
+same-length c = search needs
 
-loop-holds : tie.Need-loop-holds Inv-loop μ-loop
-loop-holds c = sym (cleared-none _)
-
-mul-list : tie.Need-mul-list Inv-loop μ-loop
-mul-list c =
-    let l = c .before .loop in
-    omega (arith, c .before .before .good .0 .1, c .loop-test .taken, ap length (l .inv), cleared-length (l .i) (c .before .before .args .list .now))
-
-slice-write-list : tie.Need-slice-write-list Inv-loop μ-loop
-slice-write-list c = search needs
-
-add-i : tie.Need-add-i Inv-loop μ-loop
-add-i c =
-    let l = c .before .loop in
-    omega (arith, c .before .before .good .0 .0, c .loop-test .taken, ap length (l .inv), cleared-length (l .i) (c .before .before .args .list .now))
-
-loop-less : tie.Need-loop-less Inv-loop μ-loop
-loop-less c = let l = c .before .loop in omega (arith, c .loop-test .taken, length-set (l .list) (l .i) 0)
-
-loop-again : tie.Need-loop-again Inv-loop μ-loop
-loop-again c =
-    let l = c .before .loop in
-    let list₀ = c .before .before .args .list .now in
-    ap (λ (x : List ℕ). set x (l .i) 0) (l .inv) ∙ cleared-step (l .i) list₀ (omega (arith, c .loop-test .taken, ap length (l .inv), cleared-length (l .i) list₀))
-
-same-length : tie.Need-same-length Inv-loop μ-loop
-same-length c = let l = c .before .loop in ap length (l .inv) ∙ cleared-length (l .i) (c .before .before .args .list .now)
-
-returns : tie.Need-returns Inv-loop μ-loop
-returns c =
-    let l = c .before .loop in
-    let list₀ = c .before .before .args .list .now in
-    l .inv ∙ cleared-all (l .i) list₀ (omega (arith, c .loop-test .left, ap length (l .inv), cleared-length (l .i) list₀))
+returns : tie.Need-returns
+returns c = c .before .before .clear .ensures ∙ cleared-all _ _ (omega arith)
 
 pub clear-spec : {M : Type 1} → statement M
-clear-spec =
-    tie.close (tie.spec Inv-loop μ-loop loop-holds mul-list slice-write-list add-i loop-less loop-again same-length returns)
+clear-spec = tie.close (tie.spec clear-requires same-length returns)

@@ -6,7 +6,8 @@ use native.Mathlib.Omega.{arith}
 use borrow.Author.Needs.{needs}
 use mathlib.Core.List.{List}
 use lib.ListN.{length, set, length-set}
-use Rattle.connect.proofs.Cleared.{clearedTo, cleared-none, cleared-step, cleared-length, cleared-all}
+use Rattle.table.specs.Cleared.{clearedTo}
+use Rattle.table.proofs.Cleared.{cleared-none, cleared-step, cleared-length, cleared-all}
 use Rattle.connect.proofs.clear_keys.Statement.{statement}
 use Rattle.connect.proofs.clear_keys.Tie as tie
 
