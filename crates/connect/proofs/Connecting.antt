@@ -57,6 +57,18 @@ limit-room limit records keys links marks order numbers e l =
       numbers-room = omega arith;
     }
 
+pub room-stays : {limit keys links marks order numbers marks′ order′ : ℕ} → LimitRoom limit keys links marks order numbers → marks′ ≡ marks → order′ ≡ order
+    → LimitRoom limit keys links marks′ order′ numbers
+room-stays room e f =
+    record {
+      few = room .few;
+      keys-room = room .keys-room;
+      links-room = room .links-room;
+      marks-room = omega (arith, room .marks-room);
+      order-room = omega (arith, room .order-room);
+      numbers-room = room .numbers-room;
+    }
+
 pub limit-is : (limit records keys links marks order numbers : ℕ) → records ≡ recordsOf keys links marks order numbers → limit ≡ min records 4096
     → limit ≡ limitOf (recordsOf keys links marks order numbers)
 unfolding limitOf

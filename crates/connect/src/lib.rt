@@ -157,7 +157,7 @@ fn connect_checked(
         ),
         4096,
     );
-    match reached::explore(old, new, k, limit, keys, links) {
+    match reached::explore(old, new, k, limit, keys, links, marks, order) {
         Reach::Over => refusal(11, 0, 0),
         Reach::Whole(count) => relate(k, old, new, keys, links, marks, order, numbers, plan, count),
     }
