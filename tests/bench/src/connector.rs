@@ -32,6 +32,6 @@ pub fn connectors(records: usize) -> Vec<(&'static str, Box<dyn Connector>)> {
     vec![
         ("baseline", Box::new(Workspace::new(records))),
         #[cfg(feature = "product")]
-        ("product", Box::new(crate::product::Product::new(records))),
+        ("product", Box::new(product::Table::new(records))),
     ]
 }

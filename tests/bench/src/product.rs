@@ -1,89 +1,12 @@
-//! The product's connecting, behind a safe function. Nothing else here knows how the work table is lent.
+//! The product as a connector.
 
 use crate::connector::{Call, Connector};
 use baseline::Answer;
+use product::{Lent, Table};
 
-#[repr(C)]
-struct ForeignAnswer {
-    number: u8,
-    sheet: u8,
-    state: u8,
-    situations: u16,
-    states: u16,
-    rounds: u16,
-    length: u32,
-}
-
-#[rustfmt::skip]
-extern "C" {
-    fn adapter_connect(
-        k: u8,
-        old: *const u8, old_length: usize,
-        new: *const u8, new_length: usize,
-        keys: *mut u64, keys_length: usize,
-        links: *mut u16, links_length: usize,
-        marks: *mut u16, marks_length: usize,
-        order: *mut u16, order_length: usize,
-        numbers: *mut u16, numbers_length: usize,
-        plan: *mut u8, plan_length: usize,
-    ) -> ForeignAnswer;
-}
-
-/// A record has so many links, one per code.
-const LINKS: usize = 42;
-
-/// The work table: a record has a key, its links, a mark, a place in the plan's order and a plan number.
-pub struct Product {
-    keys: Vec<u64>,
-    links: Vec<u16>,
-    marks: Vec<u16>,
-    order: Vec<u16>,
-    numbers: Vec<u16>,
-}
-
-impl Product {
-    /// A table of which up to so many records can be lent.
-    pub fn new(records: usize) -> Product {
-        let list = vec![0; records];
-        Product { keys: vec![0; records], links: vec![0; LINKS * records], marks: list.clone(), order: list.clone(), numbers: list }
-    }
-
-    /// The narrow lists, each with how many numbers of it make a record.
-    fn lists(&mut self) -> [(usize, &mut [u16]); 4] {
-        [(LINKS, &mut self.links), (1, &mut self.marks), (1, &mut self.order), (1, &mut self.numbers)]
-    }
-
-    /// Whether the first records hold nothing but this byte.
-    fn holds(&mut self, records: usize, byte: u8) -> bool {
-        let (wide, narrow) = (u64::from_ne_bytes([byte; 8]), u16::from_ne_bytes([byte; 2]));
-        self.keys[..records].iter().all(|key| *key == wide)
-            && self.lists().iter().all(|(size, list)| list[..size * records].iter().all(|number| *number == narrow))
-    }
-}
-
-impl Connector for Product {
+impl Connector for Table {
     fn connect(&mut self, call: &Call, plan: &mut [u8]) -> Answer {
-        let records = call.records;
-        let keys = &mut self.keys[..records];
-        let links = &mut self.links[..LINKS * records];
-        let marks = &mut self.marks[..records];
-        let order = &mut self.order[..records];
-        let numbers = &mut self.numbers[..records];
-        // Each pointer is that of a slice, passed with its length; no two of those written to overlap.
-        #[rustfmt::skip]
-        let answer = unsafe {
-            adapter_connect(
-                call.k,
-                call.old.as_ptr(), call.old.len(),
-                call.new.as_ptr(), call.new.len(),
-                keys.as_mut_ptr(), records,
-                links.as_mut_ptr(), LINKS * records,
-                marks.as_mut_ptr(), records,
-                order.as_mut_ptr(), records,
-                numbers.as_mut_ptr(), records,
-                plan.as_mut_ptr(), plan.len(),
-            )
-        };
+        let answer = Table::connect(self, &Lent::records(call.records), call.k, call.old, call.new, plan);
         Answer {
             number: answer.number,
             sheet: answer.sheet,
@@ -95,16 +18,10 @@ impl Connector for Product {
         }
     }
 
-    /// Document 01: refusals 1 to 10 leave the work table unchanged, after every other call it is zero.
     fn tried(&mut self, call: &Call, plan: &mut [u8]) -> (Answer, bool) {
-        const FILLING: u8 = 0xA5;
-        self.keys.fill(u64::from_ne_bytes([FILLING; 8]));
-        for (_, list) in self.lists() {
-            list.fill(u16::from_ne_bytes([FILLING; 2]));
-        }
-        let answer = self.connect(call, plan);
-        let due = if (1..=10).contains(&answer.number) { FILLING } else { 0 };
-        let kept = self.holds(call.records, due);
-        (answer, kept)
+        let lent = Lent::records(call.records);
+        self.fill(&lent);
+        let answer = Connector::connect(self, call, plan);
+        (answer, self.is_as_due(&lent, answer.number))
     }
 }

@@ -1,0 +1,177 @@
+//! A call with all its arguments, and its form as text.
+
+use crate::chance::Chance;
+
+#[derive(Clone, Debug, PartialEq, Eq)]
+pub enum Call {
+    Connect(Connect),
+    Step(Step),
+    Complies(Complies),
+}
+
+/// `spare` and `null` are those of `product::Lent`; with `null`, slices without bytes pass as null pointers.
+#[derive(Clone, Debug, Default, PartialEq, Eq)]
+pub struct Connect {
+    pub k: u8,
+    pub old: Vec<u8>,
+    pub new: Vec<u8>,
+    pub records: usize,
+    pub spare: usize,
+    pub room: usize,
+    pub null: bool,
+}
+
+#[derive(Clone, Debug, Default, PartialEq, Eq)]
+pub struct Step {
+    pub plan: Vec<u8>,
+    pub state: u16,
+    pub code: u8,
+    pub null: bool,
+}
+
+#[derive(Clone, Debug, Default, PartialEq, Eq)]
+pub struct Complies {
+    pub client: Vec<u8>,
+    pub service: Vec<u8>,
+    pub null: bool,
+}
+
+impl Connect {
+    /// A call with so many records and plan bytes lent; for one in four, lists have elements to spare.
+    pub fn new(chance: &mut Chance, k: u8, old: Vec<u8>, new: Vec<u8>, records: usize, room: usize) -> Connect {
+        let spare = if chance.one_in(4) { chance.number() as usize } else { 0 };
+        Connect { k, old, new, records, spare, room, null: chance.one_in(2) }
+    }
+}
+
+/// An argument.
+pub enum Field<'a> {
+    Bytes(&'a mut Vec<u8>),
+    Byte(&'a mut u8),
+    Word(&'a mut u16),
+    Size(&'a mut usize),
+    Flag(&'a mut bool),
+}
+
+impl Field<'_> {
+    /// The value of a number.
+    pub fn number(&self) -> Option<usize> {
+        match self {
+            Field::Bytes(_) => None,
+            Field::Byte(value) => Some((**value).into()),
+            Field::Word(value) => Some((**value).into()),
+            Field::Size(value) => Some(**value),
+            Field::Flag(value) => Some((**value).into()),
+        }
+    }
+
+    pub fn bytes(&mut self) -> Option<&mut Vec<u8>> {
+        match self {
+            Field::Bytes(bytes) => Some(bytes),
+            _ => None,
+        }
+    }
+
+    /// Gives a number another value; nothing if it has no such value.
+    pub fn set(&mut self, number: usize) -> Option<()> {
+        match self {
+            Field::Bytes(_) => return None,
+            Field::Byte(value) => **value = number.try_into().ok()?,
+            Field::Word(value) => **value = number.try_into().ok()?,
+            Field::Size(value) => **value = number,
+            Field::Flag(value) => **value = number != 0,
+        }
+        Some(())
+    }
+
+    fn text(&self) -> String {
+        match self {
+            Field::Bytes(bytes) => bytes.iter().map(|byte| format!(" {byte:02x}")).collect(),
+            number => format!(" {}", number.number().unwrap_or(0)),
+        }
+    }
+
+    fn read(&mut self, words: &[&str]) -> Option<()> {
+        match self {
+            Field::Bytes(bytes) => {
+                **bytes = words.iter().map(|word| u8::from_str_radix(word, 16).ok()).collect::<Option<_>>()?;
+                Some(())
+            }
+            number => number.set(words.first()?.parse().ok()?),
+        }
+    }
+}
+
+impl Call {
+    pub fn name(&self) -> &'static str {
+        match self {
+            Call::Connect(_) => "connect",
+            Call::Step(_) => "step",
+            Call::Complies(_) => "complies",
+        }
+    }
+
+    /// The arguments, by name.
+    #[rustfmt::skip]
+    pub fn fields(&mut self) -> Vec<(&'static str, Field<'_>)> {
+        match self {
+            Call::Connect(Connect { k, old, new, records, spare, room, null }) => vec![
+                ("k", Field::Byte(k)), ("old", Field::Bytes(old)), ("new", Field::Bytes(new)),
+                ("records", Field::Size(records)), ("spare", Field::Size(spare)),
+                ("room", Field::Size(room)), ("null", Field::Flag(null)),
+            ],
+            Call::Step(Step { plan, state, code, null }) => vec![
+                ("plan", Field::Bytes(plan)), ("state", Field::Word(state)),
+                ("code", Field::Byte(code)), ("null", Field::Flag(null)),
+            ],
+            Call::Complies(Complies { client, service, null }) => vec![
+                ("client", Field::Bytes(client)), ("service", Field::Bytes(service)), ("null", Field::Flag(null)),
+            ],
+        }
+    }
+
+    /// A line with the function's name, then one for each argument: its name, and bytes in hex or a number.
+    pub fn text(&self) -> String {
+        let mut lines = format!("{}\n", self.name());
+        for (name, field) in self.clone().fields() {
+            lines += &format!("{name}{}\n", field.text());
+        }
+        lines
+    }
+
+    /// The call of a text; lines that begin with # are passed over, and an argument without a line is empty or 0.
+    pub fn read(text: &str) -> Option<Call> {
+        let mut lines = text.lines().map(str::trim).filter(|line| !line.is_empty() && !line.starts_with('#'));
+        let mut call = match lines.next()? {
+            "connect" => Call::Connect(Connect::default()),
+            "step" => Call::Step(Step::default()),
+            "complies" => Call::Complies(Complies::default()),
+            _ => return None,
+        };
+        for line in lines {
+            let words: Vec<&str> = line.split_whitespace().collect();
+            let (_, mut field) = call.fields().into_iter().find(|(name, _)| *name == words[0])?;
+            field.read(&words[1..])?;
+        }
+        Some(call)
+    }
+}
+
+#[cfg(test)]
+mod tests {
+    use super::*;
+
+    #[test]
+    fn a_call_is_read_as_it_was_written() {
+        let mut chance = Chance::new(7);
+        let connect = Connect::new(&mut chance, 3, vec![1, 0xC5], vec![], 5, 21);
+        let step = Step { plan: vec![0, 0xFF], state: 65535, code: 255, null: true };
+        let complies = Complies { client: vec![9], ..Complies::default() };
+        for call in [Call::Connect(connect), Call::Step(step), Call::Complies(complies)] {
+            assert_eq!(Call::read(&format!("# why\n{}", call.text())), Some(call));
+        }
+        assert_eq!(Call::read("step\ncode 256\n"), None);
+        assert_eq!(Call::read("step\nplan 1g\n"), None);
+        assert_eq!(Call::read(""), None);
+    }
+}

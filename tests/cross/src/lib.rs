@@ -1,0 +1,15 @@
+//! Calls the product's three functions and the baseline's on the same inputs, and compares everything that the
+//! calls answer and leave behind.
+
+pub mod call;
+pub mod chance;
+pub mod contract;
+pub mod edit;
+pub mod failures;
+pub mod guarded;
+pub mod loose;
+pub mod parts;
+pub mod runner;
+pub mod smaller;
+pub mod tally;
+pub mod target;

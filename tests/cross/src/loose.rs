@@ -1,0 +1,179 @@
+//! Sheets and plans taken apart into rows, as index and trailer say, whether or not the rows are right; so that a
+//! state, a ready set, an action or a move can be left out and all offsets still fit.
+
+use std::ops::Range;
+
+#[derive(Clone, Copy, PartialEq, Eq)]
+enum Kind {
+    Sheet,
+    Plan,
+}
+
+pub struct Loose {
+    kind: Kind,
+    rows: Vec<Vec<u8>>,
+    /// What stands in the trailer behind the state count.
+    rest: Vec<u8>,
+}
+
+/// What can be left out: states, or in the row of a state a ready set or move, or an action.
+pub enum Edit {
+    States(Range<usize>),
+    Part(usize, usize),
+    Action(usize, usize),
+}
+
+fn number(bytes: &[u8]) -> usize {
+    bytes.iter().rev().fold(0, |number, byte| number << 8 | usize::from(*byte))
+}
+
+impl Loose {
+    pub fn sheet(bytes: &[u8]) -> Option<Loose> {
+        let (body, trailer) = bytes.split_at_checked(bytes.len().checked_sub(6)?)?;
+        let rows = rows_of(body, number(&trailer[..2]), number(&trailer[2..3]), 2)?;
+        Some(Loose { kind: Kind::Sheet, rows, rest: trailer[3..].to_vec() })
+    }
+
+    pub fn plan(bytes: &[u8]) -> Option<Loose> {
+        let (body, trailer) = bytes.split_at_checked(bytes.len().checked_sub(8)?)?;
+        let rows = rows_of(body, number(&trailer[..4]), number(&trailer[4..6]), 4)?;
+        Some(Loose { kind: Kind::Plan, rows, rest: trailer[6..].to_vec() })
+    }
+
+    pub fn bytes(&self) -> Vec<u8> {
+        let (offset_width, count_width) = if self.kind == Kind::Sheet { (2, 1) } else { (4, 2) };
+        let (mut bytes, mut index) = (Vec::<u8>::new(), Vec::<u8>::new());
+        for row in &self.rows {
+            index.extend(&bytes.len().to_le_bytes()[..offset_width]);
+            bytes.extend(row);
+        }
+        let offset = bytes.len();
+        bytes.extend(index);
+        bytes.extend(&offset.to_le_bytes()[..offset_width]);
+        bytes.extend(&self.rows.len().to_le_bytes()[..count_width]);
+        bytes.extend(&self.rest);
+        bytes
+    }
+
+    /// All that can be left out, what is large first.
+    pub fn edits(&self) -> Vec<Edit> {
+        let mut edits = Vec::new();
+        let mut size = self.rows.len() / 2;
+        while size > 0 {
+            edits.extend((0..self.rows.len() / size).map(|piece| Edit::States(piece * size..(piece + 1) * size)));
+            size /= 2;
+        }
+        for (state, row) in self.rows.iter().enumerate() {
+            let parts = usize::from(row.first().copied().unwrap_or(0));
+            edits.extend((0..parts).map(|part| Edit::Part(state, part)));
+            let actions = if self.kind == Kind::Sheet { 15 } else { 0 };
+            edits.extend((0..actions).map(|action| Edit::Action(state, action)));
+        }
+        edits
+    }
+
+    /// Without something; nothing if there is no such thing.
+    pub fn without(&self, edit: &Edit) -> Option<Loose> {
+        let mut rows = self.rows.clone();
+        match edit {
+            Edit::States(range) => {
+                rows.drain(range.clone());
+                rows.iter_mut().for_each(|row| self.redirect(row, range));
+            }
+            Edit::Part(state, part) => rows[*state] = self.without_part(&rows[*state], *part)?,
+            Edit::Action(state, action) => rows[*state] = without_action(&rows[*state], 1 << action)?,
+        }
+        Some(Loose { kind: self.kind, rows, rest: self.rest.clone() })
+    }
+
+    /// Lets a row lead to the start instead of states left out, and to the others by their new numbers.
+    fn redirect(&self, row: &mut [u8], gone: &Range<usize>) {
+        let parts = usize::from(row.first().copied().unwrap_or(0));
+        let (first, step, width) = if self.kind == Kind::Sheet { (1 + 2 * parts, 1, 1) } else { (2, 3, 2) };
+        for at in (first..row.len().saturating_sub(width - 1)).step_by(step) {
+            let state = number(&row[at..at + width]);
+            let after = if gone.contains(&state) { 0 } else { state - if state < gone.end { 0 } else { gone.len() } };
+            row[at..at + width].copy_from_slice(&after.to_le_bytes()[..width]);
+        }
+    }
+
+    fn without_part(&self, row: &[u8], part: usize) -> Option<Vec<u8>> {
+        if self.kind == Kind::Sheet {
+            let mut masks = masks_of(row)?;
+            masks.remove(part);
+            return with_masks(row, masks);
+        }
+        let mut row = row.to_vec();
+        let made = 1 + 3 * part..4 + 3 * part;
+        row.get(made.clone())?;
+        row.drain(made);
+        row[0] -= 1;
+        Some(row)
+    }
+}
+
+/// The rows of a body whose index stands at an offset; nothing if it does not say where rows end.
+fn rows_of(body: &[u8], offset: usize, count: usize, width: usize) -> Option<Vec<Vec<u8>>> {
+    let (rows, index) = body.split_at_checked(offset)?;
+    if index.len() != width * count {
+        return None;
+    }
+    let mut starts: Vec<usize> = index.chunks_exact(width).map(number).collect();
+    starts.push(rows.len());
+    starts.windows(2).map(|ends| rows.get(ends[0]..ends[1]).map(<[u8]>::to_vec)).collect()
+}
+
+/// The ready sets of a sheet's row, if they are there.
+fn masks_of(row: &[u8]) -> Option<Vec<u16>> {
+    let masks = row.get(1..1 + 2 * usize::from(*row.first()?))?;
+    Some(masks.chunks_exact(2).map(|mask| u16::from_le_bytes([mask[0], mask[1]])).collect())
+}
+
+/// The actions that ready sets have, ascending.
+fn offered(masks: &[u16]) -> Vec<u16> {
+    let all = masks.iter().fold(0, |all, mask| all | mask);
+    (0..14).map(|action| 1 << action).filter(|action| all & action != 0).collect()
+}
+
+/// A sheet's row with other ready sets, whose actions it has successors for.
+fn with_masks(row: &[u8], masks: Vec<u16>) -> Option<Vec<u8>> {
+    let before = masks_of(row)?;
+    let kept = offered(&masks);
+    let successors = offered(&before).into_iter().zip(&row[1 + 2 * before.len()..]);
+    let mut bytes = vec![masks.len() as u8];
+    bytes.extend(masks.iter().flat_map(|mask| mask.to_le_bytes()));
+    bytes.extend(successors.filter(|(action, _)| kept.contains(action)).map(|(_, successor)| *successor));
+    Some(bytes)
+}
+
+fn without_action(row: &[u8], action: u16) -> Option<Vec<u8>> {
+    let before = masks_of(row)?;
+    let mut masks: Vec<u16> = before.iter().map(|mask| mask & !action).collect();
+    if masks == before {
+        return None;
+    }
+    masks.sort_unstable();
+    masks.dedup();
+    with_masks(row, masks)
+}
+
+#[cfg(test)]
+mod tests {
+    use super::*;
+
+    #[test]
+    fn bytes_are_put_together_again() {
+        let sheet = [1, 3, 0, 1, 1, 1, 0, 0, 0, 0, 5, 0, 8, 0, 2, 2, 0, 0xC5];
+        let plan = [1, 0, 1, 0, 0, 0, 0, 0, 0, 4, 0, 0, 0, 5, 0, 0, 0, 2, 0, 2, 0];
+        assert_eq!(Loose::sheet(&sheet).map(|sheet| sheet.bytes()), Some(sheet.to_vec()));
+        assert_eq!(Loose::plan(&plan).map(|plan| plan.bytes()), Some(plan.to_vec()));
+    }
+
+    #[test]
+    fn a_state_and_an_action_are_left_out() {
+        let sheet = Loose::sheet(&[1, 3, 0, 1, 1, 1, 0, 0, 0, 0, 5, 0, 8, 0, 2, 2, 0, 0xC5]);
+        let alone = sheet.and_then(|sheet| sheet.without(&Edit::States(1..2)));
+        let alone = alone.and_then(|sheet| sheet.without(&Edit::Action(0, 1)));
+        assert_eq!(alone.map(|sheet| sheet.bytes()), Some(vec![1, 1, 0, 0, 0, 0, 4, 0, 1, 2, 0, 0xC5]));
+    }
+}

@@ -1,0 +1,56 @@
+//! The inputs, in parts. Each part draws from a sequence of its own.
+
+mod clients;
+mod edits;
+mod empty;
+mod lengths;
+mod many;
+mod noise;
+mod pairs;
+mod single;
+mod steps;
+
+use crate::call::{Call, Connect};
+use crate::chance::Chance;
+use crate::contract::Shape;
+use crate::runner::{Checked, Runner};
+
+/// How much of everything is run, in percent.
+#[derive(Clone, Copy)]
+pub struct Share(pub usize);
+
+impl Share {
+    /// So much of a count, but at least one.
+    fn of(self, count: usize) -> usize {
+        (count * self.0 / 100).max(1)
+    }
+}
+
+type Part = fn(&mut Runner, &mut Chance, Share) -> Checked;
+
+/// The parts, by name.
+pub const PARTS: [(&str, Part); 10] = [
+    ("nothing lent, nothing given", empty::run),
+    ("lengths at and beyond the limits", lengths::run),
+    ("random bytes of all lengths", noise::run),
+    ("valid pairs", pairs::run),
+    ("many situations", many::run),
+    ("clients and services", clients::run),
+    ("valid plans", steps::run),
+    ("edited sheets and plans", edits::run),
+    ("every byte of valid sheets changed", single::sheets),
+    ("every byte of valid plans changed", single::plans),
+];
+
+/// An emitted plan that is not trivial, of at most so many bytes.
+fn emitted(runner: &mut Runner, chance: &mut Chance, most: usize) -> Checked<Vec<u8>> {
+    loop {
+        let (old, new) = Shape::small(chance).pair(chance);
+        let k = chance.below(4) as u8;
+        let call = Connect::new(chance, k, old.sheet(), new.sheet(), 64, 1024);
+        match runner.plan(&Call::Connect(call))? {
+            Some(plan) if (24..=most).contains(&plan.len()) => return Ok(plan),
+            _ => {}
+        }
+    }
+}

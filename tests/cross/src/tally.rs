@@ -1,0 +1,87 @@
+//! How often each outcome was met.
+
+use crate::call::Call;
+use crate::target::Figures;
+
+/// The highest number of a refusal.
+const LAST: usize = 16;
+
+/// The functions, and the numbers that each can answer.
+const FUNCTIONS: [(&str, &[usize]); 3] = [
+    ("connect", &[0, 1, 2, 3, 4, 5, 6, 7, 8, 9, 10, 11, 12, 13]),
+    ("step", &[0, 14, 15, 16]),
+    ("complies", &[0, 1, 2, 3, 4, 5, 6, 7, 8, 9]),
+];
+
+#[derive(Default)]
+pub struct Tally {
+    numbers: [[u64; LAST + 1]; FUNCTIONS.len()],
+    /// Calls that count situations: fewer than 10, than 100, than 1,000, and more.
+    situations: [u64; 4],
+    after_removal: u64,
+    yes: u64,
+}
+
+impl Tally {
+    pub fn count(&mut self, call: &Call, figures: &Figures) {
+        let number = figures[0] as usize;
+        let function = match call {
+            Call::Connect(_) => 0,
+            Call::Step(_) => 1,
+            Call::Complies(_) => 2,
+        };
+        self.numbers[function][number] += 1;
+        if function == 0 && figures[3] > 0 {
+            self.situations[figures[3].ilog10() as usize] += 1;
+        }
+        self.after_removal += u64::from(function == 0 && number == 0 && figures[5] > 0);
+        self.yes += u64::from(function == 2 && figures[3] == 1);
+    }
+
+    pub fn calls(&self) -> u64 {
+        self.numbers.iter().flatten().sum()
+    }
+
+    /// What was not met though it can be.
+    pub fn missing(&self) -> Vec<String> {
+        let mut missing = Vec::new();
+        for ((name, numbers), counts) in FUNCTIONS.iter().zip(&self.numbers) {
+            let unmet = numbers.iter().filter(|number| counts[**number] == 0);
+            missing.extend(unmet.map(|number| format!("{name} never answered {number}")));
+        }
+        if self.situations.contains(&0) {
+            missing.push("no few, tens, hundreds or thousands of situations".into());
+        }
+        if self.after_removal == 0 {
+            missing.push("no pair was accepted after removals".into());
+        }
+        if self.yes == 0 || self.yes == self.numbers[2][0] {
+            missing.push("the client check did not say both yes and no".into());
+        }
+        missing
+    }
+
+    pub fn table(&self) -> String {
+        let mut lines = format!("{:>6}", "number");
+        for (name, _) in FUNCTIONS {
+            lines += &format!(" {name:>9}");
+        }
+        lines += &format!(" {:>9}\n", "calls");
+        for number in 0..=LAST {
+            lines += &format!("{number:6}");
+            for counts in &self.numbers {
+                lines += &format!(" {:9}", counts[number]);
+            }
+            lines += &format!(" {:9}\n", self.numbers.iter().map(|counts| counts[number]).sum::<u64>());
+        }
+        let [few, tens, hundreds, thousands] = self.situations;
+        lines +=
+            &format!("situations below 10: {few}, below 100: {tens}, below 1,000: {hundreds}, more: {thousands}\n");
+        let no = self.numbers[2][0] - self.yes;
+        lines
+            + &format!(
+                "accepted after removals: {}; client complies: {}, does not: {no}\n",
+                self.after_removal, self.yes
+            )
+    }
+}

@@ -1,0 +1,155 @@
+//! A wrong side is caught, the input made small and stored, and the stored input replayed. That the right sides
+//! agree is tried at a small share.
+
+use cross::call::{Call, Complies, Connect, Step};
+use cross::chance::Chance;
+use cross::guarded::Guarded;
+use cross::parts::{Share, PARTS};
+use cross::runner::{Checked, Ended, Runner};
+use cross::target::{Baseline, Figures, Outcome, Product, Target};
+use std::path::{Path, PathBuf};
+
+/// What a wrong side changes: the figures, the lent plan, or whether all else is as due.
+type Fault = fn(&Call, &mut Figures, &mut Guarded, &mut bool);
+
+/// The baseline with a fault.
+struct Wrong {
+    right: Baseline,
+    plan: Guarded,
+    fault: Fault,
+}
+
+impl Target for Wrong {
+    fn answer(&mut self, call: &Call) -> Outcome<'_> {
+        let Outcome { mut figures, plan, mut as_due } = self.right.answer(call);
+        let lent = plan.is_some();
+        self.plan = plan.cloned().unwrap_or_default();
+        (self.fault)(call, &mut figures, &mut self.plan, &mut as_due);
+        Outcome { figures, plan: lent.then_some(&self.plan), as_due }
+    }
+}
+
+fn run(runner: &mut Runner) -> Checked {
+    for (place, (_, part)) in PARTS.iter().enumerate() {
+        part(runner, &mut Chance::new(place as u64), Share(1))?;
+    }
+    Ok(())
+}
+
+fn differs_in(ended: Checked) -> PathBuf {
+    match ended {
+        Err(Ended::Differs { path, .. }) => path,
+        other => panic!("no difference: {other:?}"),
+    }
+}
+
+fn folder(name: &str) -> PathBuf {
+    let folder = std::env::temp_dir().join(format!("cross-{}-{name}", std::process::id()));
+    assert!(!folder.exists());
+    folder
+}
+
+/// The small input that is stored for a fault. It is also the one that replaying finds, and the right side has no
+/// fault there.
+fn caught(name: &str, fault: Fault) -> Call {
+    let folder = folder(name);
+    let mut wrong = Wrong { right: Baseline::new(), plan: Guarded::default(), fault };
+    let mut baseline = Baseline::new();
+    let path = differs_in(run(&mut Runner::new(&mut baseline, &mut wrong, &folder)));
+    let replayed = Runner::new(&mut baseline, &mut wrong, &folder).replay();
+    assert_eq!(differs_in(replayed.map(|_| ())), path);
+    let mut product = Product::new();
+    let right = Runner::new(&mut baseline, &mut product, &folder).replay();
+    assert!(matches!(right, Ok(1)));
+    let call = cross::failures::read(&path).expect("a stored call");
+    std::fs::remove_dir_all(&folder).expect("a folder to remove");
+    call
+}
+
+#[test]
+fn a_wrong_state_of_a_refusal() {
+    let call = caught("state", |call, figures, _, _| {
+        if matches!(call, Call::Connect(_)) && figures[0] == 7 && figures[1] == 1 && figures[2] > 0 {
+            figures[2] -= 1;
+        }
+    });
+    let Call::Connect(Connect { k: 0, old, new, records: 0, spare: 0, room: 0, null: false }) = call else {
+        panic!("not small: {call:?}");
+    };
+    // Two rows, the second with one ready set and one successor, the index and the trailer.
+    assert_eq!((old.len(), new.len()), (3 + 4 + 4 + 6, 0));
+}
+
+#[test]
+fn a_wrong_byte_of_a_plan() {
+    let call = caught("byte", |_, figures, plan, _| {
+        if figures[4] == 2 && figures[6] > 0 {
+            plan.inside_mut()[0] ^= 1;
+        }
+    });
+    assert!(matches!(call, Call::Connect(Connect { records: 2, spare: 0, null: false, .. })), "{call:?}");
+}
+
+#[test]
+fn a_table_that_is_left_dirty() {
+    let call = caught("table", |call, figures, _, as_due| {
+        *as_due = !(matches!(call, Call::Connect(_)) && figures[0] == 12);
+    });
+    assert!(matches!(call, Call::Connect(Connect { k: 0, records: 1, room: 0, .. })), "{call:?}");
+}
+
+#[test]
+fn a_byte_written_behind_a_refused_plan() {
+    let call = caught("room", |_, figures, plan, _| {
+        if figures[0] == 13 {
+            plan.inside_mut().iter_mut().for_each(|byte| *byte = 0);
+        }
+    });
+    assert!(matches!(call, Call::Connect(Connect { room: 1, .. })), "{call:?}");
+}
+
+#[test]
+fn a_wrong_step() {
+    let call = caught("step", |call, figures, _, _| {
+        if matches!(call, Call::Step(Step { code: 32.., .. })) && figures[0] == 0 {
+            figures[1] += 1;
+        }
+    });
+    let Call::Step(Step { plan, null: false, .. }) = call else {
+        panic!("not small: {call:?}");
+    };
+    // Two rows with one move in all, the index and the trailer: state and row go down only together.
+    assert!(plan.len() <= 5 + 8 + 8);
+}
+
+#[test]
+fn a_wrong_yes() {
+    let call = caught("yes", |call, figures, _, _| {
+        if matches!(call, Call::Complies(_)) && figures[0] == 0 {
+            figures[3] = 1;
+        }
+    });
+    let Call::Complies(Complies { client, service, null: false }) = call else {
+        panic!("not small: {call:?}");
+    };
+    // One state each that offers nothing.
+    assert_eq!((client.len(), service.len()), (3 + 2 + 6, 3 + 2 + 6));
+}
+
+#[test]
+fn a_null_pointer_that_matters() {
+    let call = caught("null", |call, figures, _, _| {
+        if matches!(call, Call::Step(Step { null: true, .. })) {
+            figures[0] = 0;
+        }
+    });
+    assert_eq!(call, Call::Step(Step { null: true, ..Step::default() }));
+}
+
+#[test]
+fn the_right_sides_agree_and_every_outcome_is_met() {
+    let (mut baseline, mut product) = (Baseline::new(), Product::new());
+    let mut runner = Runner::new(&mut baseline, &mut product, Path::new("nowhere"));
+    assert!(run(&mut runner).is_ok());
+    assert_eq!(runner.tally.missing(), Vec::<String>::new());
+}

@@ -1,0 +1,68 @@
+//! The product's functions as C sees them.
+
+use std::ptr::{null, null_mut};
+
+/// What connecting answers.
+#[repr(C)]
+#[derive(Clone, Copy, Debug, PartialEq, Eq)]
+pub struct Answer {
+    pub number: u8,
+    pub sheet: u8,
+    pub state: u8,
+    pub situations: u16,
+    pub states: u16,
+    pub rounds: u16,
+    pub length: u32,
+}
+
+/// What stepping answers.
+#[repr(C)]
+#[derive(Clone, Copy, Debug, PartialEq, Eq)]
+pub struct Stepped {
+    pub number: u8,
+    pub state: u16,
+}
+
+/// What the client check answers. Yes is the byte 1, no the byte 0; any other would be the product's fault.
+#[repr(C)]
+#[derive(Clone, Copy, Debug, PartialEq, Eq)]
+pub struct Compliance {
+    pub number: u8,
+    pub sheet: u8,
+    pub state: u8,
+    pub yes: u8,
+}
+
+#[rustfmt::skip]
+extern "C" {
+    pub fn adapter_connect(
+        k: u8,
+        old: *const u8, old_length: usize,
+        new: *const u8, new_length: usize,
+        keys: *mut u64, keys_length: usize,
+        links: *mut u16, links_length: usize,
+        marks: *mut u16, marks_length: usize,
+        order: *mut u16, order_length: usize,
+        numbers: *mut u16, numbers_length: usize,
+        plan: *mut u8, plan_length: usize,
+    ) -> Answer;
+
+    pub fn adapter_step(plan: *const u8, plan_length: usize, state: u16, code: u8) -> Stepped;
+
+    pub fn adapter_complies(
+        client: *const u8, client_length: usize,
+        service: *const u8, service_length: usize,
+    ) -> Compliance;
+}
+
+/// A slice as a pointer and a length. With `as_null`, the pointer of a slice without elements is null.
+pub fn passed<T>(slice: &[T], as_null: bool) -> (*const T, usize) {
+    let pointer = if as_null && slice.is_empty() { null() } else { slice.as_ptr() };
+    (pointer, slice.len())
+}
+
+/// The same for a slice that is written to.
+pub fn lent<T>(slice: &mut [T], as_null: bool) -> (*mut T, usize) {
+    let pointer = if as_null && slice.is_empty() { null_mut() } else { slice.as_mut_ptr() };
+    (pointer, slice.len())
+}

@@ -1,0 +1,25 @@
+//! The functions of the product's static library, behind safe ones. Nothing else knows how a slice passes to
+//! C, or how the work table is lent.
+
+mod foreign;
+mod list;
+mod table;
+
+pub use foreign::{Answer, Compliance, Stepped};
+pub use table::{Lent, Table};
+
+use foreign::passed;
+
+/// Steps a plan. With `null`, a plan without bytes passes as a null pointer.
+pub fn step(plan: &[u8], state: u16, code: u8, null: bool) -> Stepped {
+    let (bytes, length) = passed(plan, null);
+    // The pointer is that of a slice, passed with its length, or null with length 0.
+    unsafe { foreign::adapter_step(bytes, length, state, code) }
+}
+
+/// Checks a client against a service. With `null`, sheets without bytes pass as null pointers.
+pub fn complies(client: &[u8], service: &[u8], null: bool) -> Compliance {
+    let ((client, client_length), (service, service_length)) = (passed(client, null), passed(service, null));
+    // Each pointer is that of a slice, passed with its length, or null with length 0.
+    unsafe { foreign::adapter_complies(client, client_length, service, service_length) }
+}
