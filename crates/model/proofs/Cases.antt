@@ -31,7 +31,7 @@ unfolding answerOf figures
 computed c = figures (answerOf (c .k) (c .old) (c .new) .answer)
 
 -- two functions that agree along a list agree at each of its elements
-agree-at : {A B : Type 0} (f g : A → B) {a : A} {l : List A} → List·Memᴰ a l → map f l ≡ map g l → f a ≡ g a
+pub agree-at : {A B : Type 0} (f g : A → B) {a : A} {l : List A} → List·Memᴰ a l → map f l ≡ map g l → f a ≡ g a
 agree-at f g (List·Memᴰ·head e) p = ap f e ∙ head-eq-of-cons-eq p ∙ sym (ap g e)
 agree-at f g (List·Memᴰ·tail m) p = agree-at f g m (tail-eq-of-cons-eq p)
 

@@ -22,6 +22,8 @@ pub mod Connect
 pub mod Demand1
 pub mod Demand2
 pub mod Demand3
+pub mod Standstill
+pub mod RunCases
 pub mod Codes
 pub mod Masks
 pub mod Moves

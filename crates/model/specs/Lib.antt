@@ -13,3 +13,4 @@ pub mod Run
 pub mod Weak
 pub mod Demands
 pub mod Cases
+pub mod RunCases
