@@ -62,7 +62,7 @@ returns c =
     let of-marks = of-order .before .before .before .before in
     let of-links = of-marks .before .before .before .before in
     let of-keys = of-links .before .before .before .before in
-    (of-keys .clear-keys .ensures, (of-links .clear .ensures, (of-marks .clear2 .ensures, (of-order .clear3 .ensures, (of-numbers .clear4 .ensures, (of-present .clear5 .ensures, (of-last .clear6 .ensures, (of-before .clear7 .ensures))))))))
+    (of-keys .clear-keys .ensures, (of-links .clear .ensures, (of-marks .clear2 .ensures, (of-order .clear3 .ensures, (of-numbers .clear4 .ensures, (of-present .clear5 .ensures, (of-last .clear6 .ensures, of-before .clear7 .ensures)))))))
 
 pub clear-table-spec : {M : Type 1} → statement M
 clear-table-spec =

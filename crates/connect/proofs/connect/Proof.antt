@@ -87,8 +87,31 @@ returns-3 c =
     let cleared = good-cleared _ _ _ _ _ p g rank _ _ _ (call .connect-checked .ensures) in
     let kept = call .connect-checked .kept .1 .1 .1 in
     let last = call .connect-checked .last .1 .1 .1 in
-    let zero = wiped .clear-table .ensures in
-    (good-writes _ _ _ _ _ p g rank _ _ _ (call .connect-checked .ensures), (cleared _ (last .0) _ (kept .0) (zero .0), (cleared _ (last .1 .0) _ (kept .1 .0) (zero .1 .0), (cleared _ (last .1 .1 .0) _ (kept .1 .1 .0) (zero .1 .1 .0), (cleared _ (last .1 .1 .1 .0) _ (kept .1 .1 .1 .0) (zero .1 .1 .1 .0), (cleared _ (last .1 .1 .1 .1 .0) _ (kept .1 .1 .1 .1 .0) (zero .1 .1 .1 .1 .0), (cleared _ (last .1 .1 .1 .1 .1 .0) _ (kept .1 .1 .1 .1 .1 .0) (zero .1 .1 .1 .1 .1 .0), (cleared _ (last .1 .1 .1 .1 .1 .1 .0) _ (kept .1 .1 .1 .1 .1 .1 .0) (zero .1 .1 .1 .1 .1 .1 .0), cleared _ (last .1 .1 .1 .1 .1 .1 .1 .0) _ (kept .1 .1 .1 .1 .1 .1 .1 .0) (zero .1 .1 .1 .1 .1 .1 .1)))))))))
+    let zero = wiped .clear-table .ensures in (
+      good-writes _ _ _ _ _ p g rank _ _ _ (call .connect-checked .ensures),
+      (
+        cleared _ (last .0) _ (kept .0) (zero .0),
+        (
+          cleared _ (last .1 .0) _ (kept .1 .0) (zero .1 .0),
+          (
+            cleared _ (last .1 .1 .0) _ (kept .1 .1 .0) (zero .1 .1 .0),
+            (
+              cleared _ (last .1 .1 .1 .0) _ (kept .1 .1 .1 .0) (zero .1 .1 .1 .0),
+              (
+                cleared _ (last .1 .1 .1 .1 .0) _ (kept .1 .1 .1 .1 .0) (zero .1 .1 .1 .1 .0),
+                (
+                  cleared _ (last .1 .1 .1 .1 .1 .0) _ (kept .1 .1 .1 .1 .1 .0) (zero .1 .1 .1 .1 .1 .0),
+                  (
+                    cleared _ (last .1 .1 .1 .1 .1 .1 .0) _ (kept .1 .1 .1 .1 .1 .1 .0) (zero .1 .1 .1 .1 .1 .1 .0),
+                    cleared _ (last .1 .1 .1 .1 .1 .1 .1 .0) _ (kept .1 .1 .1 .1 .1 .1 .1 .0) (zero .1 .1 .1 .1 .1 .1 .1),
+                  ),
+                ),
+              ),
+            ),
+          ),
+        ),
+      ),
+    )
 
 pub connect-spec : {M : Type 1} → statement M
 connect-spec =
