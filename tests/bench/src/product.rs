@@ -25,32 +25,59 @@ extern "C" {
         marks: *mut u16, marks_length: usize,
         order: *mut u16, order_length: usize,
         numbers: *mut u16, numbers_length: usize,
+        present: *mut u16, present_length: usize,
+        last: *mut u16, last_length: usize,
+        before: *mut u16, before_length: usize,
         plan: *mut u8, plan_length: usize,
     ) -> ForeignAnswer;
 }
 
-/// A record has so many links, one per code.
+/// A record has so many links and earlier incoming moves, one per code.
 const LINKS: usize = 42;
 
-/// The work table: a record has a key, its links, a mark, a place in the plan's order and a plan number.
+/// A record has so many masks of present moves and last incoming moves, one per kind of move.
+const KINDS: usize = 3;
+
+/// The work table: a record has a key, its links, a mark, a place in the plan's order, a plan number, its masks of present moves, its
+/// last incoming moves and its earlier incoming moves.
 pub struct Product {
     keys: Vec<u64>,
     links: Vec<u16>,
     marks: Vec<u16>,
     order: Vec<u16>,
     numbers: Vec<u16>,
+    present: Vec<u16>,
+    last: Vec<u16>,
+    before: Vec<u16>,
 }
 
 impl Product {
     /// A table of which up to so many records can be lent.
     pub fn new(records: usize) -> Product {
-        let list = vec![0; records];
-        Product { keys: vec![0; records], links: vec![0; LINKS * records], marks: list.clone(), order: list.clone(), numbers: list }
+        let list = |size: usize| vec![0; size * records];
+        Product {
+            keys: vec![0; records],
+            links: list(LINKS),
+            marks: list(1),
+            order: list(1),
+            numbers: list(1),
+            present: list(KINDS),
+            last: list(KINDS),
+            before: list(LINKS),
+        }
     }
 
     /// The narrow lists, each with how many numbers of it make a record.
-    fn lists(&mut self) -> [(usize, &mut [u16]); 4] {
-        [(LINKS, &mut self.links), (1, &mut self.marks), (1, &mut self.order), (1, &mut self.numbers)]
+    fn lists(&mut self) -> [(usize, &mut [u16]); 7] {
+        [
+            (LINKS, &mut self.links),
+            (1, &mut self.marks),
+            (1, &mut self.order),
+            (1, &mut self.numbers),
+            (KINDS, &mut self.present),
+            (KINDS, &mut self.last),
+            (LINKS, &mut self.before),
+        ]
     }
 
     /// Whether the first records hold nothing but this byte.
@@ -69,6 +96,9 @@ impl Connector for Product {
         let marks = &mut self.marks[..records];
         let order = &mut self.order[..records];
         let numbers = &mut self.numbers[..records];
+        let present = &mut self.present[..KINDS * records];
+        let last = &mut self.last[..KINDS * records];
+        let before = &mut self.before[..LINKS * records];
         // Each pointer is that of a slice, passed with its length; no two of those written to overlap.
         #[rustfmt::skip]
         let answer = unsafe {
@@ -81,6 +111,9 @@ impl Connector for Product {
                 marks.as_mut_ptr(), records,
                 order.as_mut_ptr(), records,
                 numbers.as_mut_ptr(), records,
+                present.as_mut_ptr(), KINDS * records,
+                last.as_mut_ptr(), KINDS * records,
+                before.as_mut_ptr(), LINKS * records,
                 plan.as_mut_ptr(), plan.len(),
             )
         };
