@@ -22,16 +22,35 @@ pub extern "C" fn adapter_connect(
     marks: &mut [u16],
     order: &mut [u16],
     numbers: &mut [u16],
+    present: &mut [u16],
+    last: &mut [u16],
+    before: &mut [u16],
     plan: &mut [u8],
 ) -> Answer
-    ensures answered { λ r. ⌜ Writes (outcomeOf (recordsOf (length (now (keys .entry))) (length (now (links .entry))) (length (now (marks .entry))) (length (now (order .entry))) (length (now (numbers .entry)))) (length (now (plan .entry))) k (now (old .entry)) (now (new .entry))) r (now (plan .entry)) (now (plan .exit)) ⌝ }
+    ensures answered { λ r. ⌜ Writes (outcomeOf (recordsOf (now (keys .entry)) (now (links .entry)) (now (marks .entry)) (now (order .entry)) (now (numbers .entry)) (now (present .entry)) (now (last .entry)) (now (before .entry))) (length (now (plan .entry))) k (now (old .entry)) (now (new .entry))) r (now (plan .entry)) (now (plan .exit)) ⌝ }
     ensures keys { λ r. ⌜ now (keys .exit) ≡ afterwards (r .number) (now (keys .entry)) ⌝ }
     ensures links { λ r. ⌜ now (links .exit) ≡ afterwards (r .number) (now (links .entry)) ⌝ }
     ensures marks { λ r. ⌜ now (marks .exit) ≡ afterwards (r .number) (now (marks .entry)) ⌝ }
     ensures order { λ r. ⌜ now (order .exit) ≡ afterwards (r .number) (now (order .entry)) ⌝ }
     ensures numbers { λ r. ⌜ now (numbers .exit) ≡ afterwards (r .number) (now (numbers .entry)) ⌝ }
+    ensures present { λ r. ⌜ now (present .exit) ≡ afterwards (r .number) (now (present .entry)) ⌝ }
+    ensures last { λ r. ⌜ now (last .exit) ≡ afterwards (r .number) (now (last .entry)) ⌝ }
+    ensures before { λ r. ⌜ now (before .exit) ≡ afterwards (r .number) (now (before .entry)) ⌝ }
 {
-    connect::connect(k, old, new, keys, links, marks, order, numbers, plan)
+    connect::connect(
+        k,
+        old,
+        new,
+        keys,
+        links,
+        marks,
+        order,
+        numbers,
+        present,
+        last,
+        before,
+        plan,
+    )
 }
 
 // `plan::step`.

@@ -23,9 +23,12 @@ answerOf r =
       length = r .length;
     }
 
--- The lent lists make so many records: each has a key, 42 links, a mark, a place in the plan's order and a plan number.
-unfoldable pub recordsOf : (keys links marks order numbers : ℕ) → ℕ
-recordsOf keys links marks order numbers = min keys (min (links / 42) (min marks (min order numbers)))
+-- The lent lists make so many records: each has a key, 42 links, a mark, a place in the plan's order, a plan number, 3 masks of
+-- present moves, 3 last incoming moves and 42 earlier incoming moves.
+unfoldable pub recordsOf : (keys links marks order numbers present last before : List ℕ) → ℕ
+recordsOf keys links marks order numbers present last before =
+    min (min (min (length keys) (length marks)) (min (length order) (length numbers)))
+    (min (min (length links / 42) (length before / 42)) (min (length present / 3) (length last / 3)))
 
 -- an outcome is answered, and its bytes stand in front of the lent plan
 pub record Writes (o : Outcome) (r : Answer) (plan plan′ : List ℕ) : Type 0 where

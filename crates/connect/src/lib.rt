@@ -10,7 +10,7 @@ ghost use Rattle.model.specs.Connect.{refused, emitted, connected, limitOf, out
 ghost use Rattle.sheet.specs.Whole.{IsSheet};
 ghost use Rattle.numbering.specs.Kept.{WorkLists, rowsIn};
 ghost use Rattle.numbering.specs.Numbered.{Room};
-ghost use Rattle.rounds.specs.Settled.{WorkTable};
+ghost use Rattle.rounds.specs.Settled.{WorkTable, ListsRoom};
 ghost use Rattle.connect.specs.Answers.{answerOf, recordsOf, afterwards, Writes};
 ghost use Rattle.connect.specs.Related.{relatedIn};
 use pair::Pair;
@@ -59,13 +59,27 @@ fn with_counts(number: u8, situations: u16, states: u16, rounds: u16, length: u3
 }
 
 // How many records the lent lists make.
-fn records(keys: usize, links: usize, marks: usize, order: usize, numbers: usize) -> usize
-    ensures { λ r. ⌜ r ≡ recordsOf keys links marks order numbers ⌝ }
+fn records(
+    keys: &[u64],
+    links: &[u16],
+    marks: &[u16],
+    order: &[u16],
+    numbers: &[u16],
+    present: &[u16],
+    last: &[u16],
+    before: &[u16],
+) -> usize
+    ensures { λ r. ⌜ r ≡ recordsOf (now (keys .entry)) (now (links .entry)) (now (marks .entry)) (now (order .entry)) (now (numbers .entry)) (now (present .entry)) (now (last .entry)) (now (before .entry)) ⌝ }
 {
-    smaller(
-        keys,
-        smaller(links / 42, smaller(marks, smaller(order, numbers))),
-    )
+    let moves = smaller(
+        smaller(links.len() / 42, before.len() / 42),
+        smaller(present.len() / 3, last.len() / 3),
+    );
+    let others = smaller(
+        smaller(keys.len(), marks.len()),
+        smaller(order.len(), numbers.len()),
+    );
+    smaller(others, moves)
 }
 
 fn smaller(a: usize, b: usize) -> usize
@@ -119,13 +133,27 @@ fn relate(
     marks: &mut [u16],
     order: &mut [u16],
     numbers: &mut [u16],
+    present: &mut [u16],
+    last: &mut [u16],
+    before: &mut [u16],
     plan: &mut [u8],
     count: u16,
 ) -> Answer
-    requires { ⌜ WorkTable (now old) (now new) (now keys) (now links) (length (now marks)) count × (0 < count) × Room count (now order) (now numbers) ⌝ }
+    requires { ⌜ WorkTable (now old) (now new) (now keys) (now links) (length (now marks)) count × (0 < count) × Room count (now order) (now numbers) × ListsRoom count (now order) (now present) (now last) (now before) ⌝ }
     ensures { λ r. ⌜ Writes (relatedIn k (contractIn (now (old .entry))) (contractIn (now (new .entry))) (now (keys .entry)) (now (links .entry)) count (length (now (plan .entry)))) r (now (plan .entry)) (now (plan .exit)) ⌝ }
 {
-    let rounds = rounds::settle(old, new, keys, links, marks, count as usize);
+    let rounds = rounds::settle(
+        old,
+        new,
+        keys,
+        links,
+        marks,
+        order,
+        present,
+        last,
+        before,
+        count as usize,
+    );
     if marks[0] != 0 {
         return with_counts(12, count, 0, rounds, 0);
     }
@@ -142,29 +170,40 @@ fn connect_checked(
     marks: &mut [u16],
     order: &mut [u16],
     numbers: &mut [u16],
+    present: &mut [u16],
+    last: &mut [u16],
+    before: &mut [u16],
     plan: &mut [u8],
 ) -> Answer
     requires { ⌜ IsSheet (now old) × IsSheet (now new) × (k ≤ 3) ⌝ }
-    ensures { λ r. ⌜ Writes (connected k (contractIn (now (old .entry))) (contractIn (now (new .entry))) (limitOf (recordsOf (length (now (keys .entry))) (length (now (links .entry))) (length (now (marks .entry))) (length (now (order .entry))) (length (now (numbers .entry))))) (length (now (plan .entry)))) r (now (plan .entry)) (now (plan .exit)) ⌝ }
+    ensures { λ r. ⌜ Writes (connected k (contractIn (now (old .entry))) (contractIn (now (new .entry))) (limitOf (recordsOf (now (keys .entry)) (now (links .entry)) (now (marks .entry)) (now (order .entry)) (now (numbers .entry)) (now (present .entry)) (now (last .entry)) (now (before .entry)))) (length (now (plan .entry)))) r (now (plan .entry)) (now (plan .exit)) ⌝ }
 {
     let limit = smaller(
-        records(
-            keys.len(),
-            links.len(),
-            marks.len(),
-            order.len(),
-            numbers.len(),
-        ),
+        records(keys, links, marks, order, numbers, present, last, before),
         4096,
     );
     match reached::explore(old, new, k, limit, keys, links, marks, order) {
         Reach::Over => refusal(11, 0, 0),
-        Reach::Whole(count) => relate(k, old, new, keys, links, marks, order, numbers, plan, count),
+        Reach::Whole(count) => relate(
+            k,
+            old,
+            new,
+            keys,
+            links,
+            marks,
+            order,
+            numbers,
+            present,
+            last,
+            before,
+            plan,
+            count,
+        ),
     }
 }
 
 // Connects the contracts of two sheets with buffers of rank k. The lists are the work table: a record has a key, 42 links, a mark, a
-// place in the plan's order and a plan number.
+// place in the plan's order, a plan number, 3 masks of present moves, 3 last incoming moves and 42 earlier incoming moves.
 pub fn connect(
     k: u8,
     old: &[u8],
@@ -174,14 +213,20 @@ pub fn connect(
     marks: &mut [u16],
     order: &mut [u16],
     numbers: &mut [u16],
+    present: &mut [u16],
+    last: &mut [u16],
+    before: &mut [u16],
     plan: &mut [u8],
 ) -> Answer
-    ensures answered { λ r. ⌜ Writes (outcomeOf (recordsOf (length (now (keys .entry))) (length (now (links .entry))) (length (now (marks .entry))) (length (now (order .entry))) (length (now (numbers .entry)))) (length (now (plan .entry))) k (now (old .entry)) (now (new .entry))) r (now (plan .entry)) (now (plan .exit)) ⌝ }
+    ensures answered { λ r. ⌜ Writes (outcomeOf (recordsOf (now (keys .entry)) (now (links .entry)) (now (marks .entry)) (now (order .entry)) (now (numbers .entry)) (now (present .entry)) (now (last .entry)) (now (before .entry))) (length (now (plan .entry))) k (now (old .entry)) (now (new .entry))) r (now (plan .entry)) (now (plan .exit)) ⌝ }
     ensures keys { λ r. ⌜ now (keys .exit) ≡ afterwards (r .number) (now (keys .entry)) ⌝ }
     ensures links { λ r. ⌜ now (links .exit) ≡ afterwards (r .number) (now (links .entry)) ⌝ }
     ensures marks { λ r. ⌜ now (marks .exit) ≡ afterwards (r .number) (now (marks .entry)) ⌝ }
     ensures order { λ r. ⌜ now (order .exit) ≡ afterwards (r .number) (now (order .entry)) ⌝ }
     ensures numbers { λ r. ⌜ now (numbers .exit) ≡ afterwards (r .number) (now (numbers .entry)) ⌝ }
+    ensures present { λ r. ⌜ now (present .exit) ≡ afterwards (r .number) (now (present .entry)) ⌝ }
+    ensures last { λ r. ⌜ now (last .exit) ≡ afterwards (r .number) (now (last .entry)) ⌝ }
+    ensures before { λ r. ⌜ now (before .exit) ≡ afterwards (r .number) (now (before .entry)) ⌝ }
 {
     match pair::check_pair(0, 0, old, new) {
         Pair::Refused(number, sheet, state, offset) => refusal(number, sheet, state),
@@ -189,15 +234,54 @@ pub fn connect(
             if 3 < k {
                 return refusal(10, 0, 0);
             }
-            let answer = connect_checked(k, old, new, keys, links, marks, order, numbers, plan);
-            clear_keys(keys);
-            clear(links);
-            clear(marks);
-            clear(order);
-            clear(numbers);
+            let answer = connect_checked(
+                k,
+                old,
+                new,
+                keys,
+                links,
+                marks,
+                order,
+                numbers,
+                present,
+                last,
+                before,
+                plan,
+            );
+            clear_table(keys, links, marks, order, numbers, present, last, before);
             answer
         }
     }
+}
+
+// All numbers of the lists become 0.
+fn clear_table(
+    keys: &mut [u64],
+    links: &mut [u16],
+    marks: &mut [u16],
+    order: &mut [u16],
+    numbers: &mut [u16],
+    present: &mut [u16],
+    last: &mut [u16],
+    before: &mut [u16],
+)
+    ensures keys { λ _. ⌜ now (keys .exit) ≡ map (λ x. 0) (now (keys .entry)) ⌝ }
+    ensures links { λ _. ⌜ now (links .exit) ≡ map (λ x. 0) (now (links .entry)) ⌝ }
+    ensures marks { λ _. ⌜ now (marks .exit) ≡ map (λ x. 0) (now (marks .entry)) ⌝ }
+    ensures order { λ _. ⌜ now (order .exit) ≡ map (λ x. 0) (now (order .entry)) ⌝ }
+    ensures numbers { λ _. ⌜ now (numbers .exit) ≡ map (λ x. 0) (now (numbers .entry)) ⌝ }
+    ensures present { λ _. ⌜ now (present .exit) ≡ map (λ x. 0) (now (present .entry)) ⌝ }
+    ensures last { λ _. ⌜ now (last .exit) ≡ map (λ x. 0) (now (last .entry)) ⌝ }
+    ensures before { λ _. ⌜ now (before .exit) ≡ map (λ x. 0) (now (before .entry)) ⌝ }
+{
+    clear_keys(keys);
+    clear(links);
+    clear(marks);
+    clear(order);
+    clear(numbers);
+    clear(present);
+    clear(last);
+    clear(before);
 }
 
 // All numbers of a list become 0.

@@ -58,6 +58,9 @@ fn connect_sheets(k: u8, old: &[u8], new: &[u8]) {
     let mut marks = [0u16; 1024];
     let mut order = [0u16; 1024];
     let mut numbers = [0u16; 1024];
+    let mut present = [0u16; 3072];
+    let mut last = [0u16; 3072];
+    let mut before = [0u16; 43008];
     let mut plan = [0u8; 32768];
     let answer = connect::connect(
         k,
@@ -68,6 +71,9 @@ fn connect_sheets(k: u8, old: &[u8], new: &[u8]) {
         &mut marks,
         &mut order,
         &mut numbers,
+        &mut present,
+        &mut last,
+        &mut before,
         &mut plan,
     );
     print_answer(answer.number, answer.sheet, answer.state);

@@ -1,6 +1,7 @@
 // Answers the cases that are stored as records on standard input. tests/reference makes the records and says what is to be printed for
 // each; its README has the form of every kind.
 mod clients;
+mod lent;
 mod pairs;
 mod runs;
 mod sheets;

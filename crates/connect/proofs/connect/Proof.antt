@@ -29,28 +29,17 @@ returns c =
     let a = c .refusal2 .ensures in
     let h = c .before .if1 .taken in
     let same = rank-unchanged _ _ _ 0 _ p _ [] g h a in
-    (rank-writes _ _ _ _ _ p _ _ g h a, (same _, (same _, (same _, (same _, same _)))))
+    (rank-writes _ _ _ _ _ p _ _ g h a, (same _, (same _, (same _, (same _, (same _, (same _, (same _, same _))))))))
 
 connect-checked-requires : tie.Need-connect-checked-requires
 connect-checked-requires c κs =
-    let good = good-both 0 0 _ _ _ (c .before .before .before .before .before .before .before .before .before .check-pair .ensures) (c .before .before .before .before .before .before .before .enum-told .given .1) in
+    let i = c .before .before .before .before .before .before .before .before .before in
+    let good = good-both 0 0 _ _ _ (i .before .before .before .check-pair .ensures) (i .before .enum-told .given .1) in
     let sheets = both-sheets 0 0 _ _ _ good in
-    (sheets .0, sheets .1, c .before .before .before .before .before .before .if1 .left)
+    (sheets .0, sheets .1, i .if1 .left)
 
-clear-keys-requires : tie.Need-clear-keys-requires
-clear-keys-requires c κs = search needs
-
-clear-requires : tie.Need-clear-requires
-clear-requires c κs = search needs
-
-clear-requires-2 : tie.Need-clear-requires-2
-clear-requires-2 c κs = search needs
-
-clear-requires-3 : tie.Need-clear-requires-3
-clear-requires-3 c κs = search needs
-
-clear-requires-4 : tie.Need-clear-requires-4
-clear-requires-4 c κs = search needs
+clear-table-requires : tie.Need-clear-table-requires
+clear-table-requires c κs = search needs
 
 returns-2 : tie.Need-returns-2
 returns-2 c =
@@ -58,7 +47,7 @@ returns-2 c =
     let g = c .before .before .number .given .1 in
     let a = c .refusal .ensures in
     let same = pair-unchanged _ _ 0 0 _ p _ [] _ _ _ _ g a in
-    (pair-writes _ _ _ _ _ p _ _ _ _ _ _ g a, (same _, (same _, (same _, (same _, same _)))))
+    (pair-writes _ _ _ _ _ p _ _ _ _ _ _ g a, (same _, (same _, (same _, (same _, (same _, (same _, (same _, same _))))))))
 
 same-length : tie.Need-same-length
 same-length c = search needs
@@ -78,22 +67,48 @@ same-length-5 c = search needs
 same-length-6 : tie.Need-same-length-6
 same-length-6 c = search needs
 
+same-length-7 : tie.Need-same-length-7
+same-length-7 c = search needs
+
+same-length-8 : tie.Need-same-length-8
+same-length-8 c = search needs
+
+same-length-9 : tie.Need-same-length-9
+same-length-9 c = search needs
+
 returns-3 : tie.Need-returns-3
 returns-3 c =
-    let w = c .before .before .before .before .before .before .before .before .before .before .before .before .before .before .before .before .before .before .before .before .before .before .before .before .before .before .before .before .before .before .before .before in
-    let i = w .before .before .before .before .before .before .before in
+    let wiped = c .before .before .before .before .before .before .before .before .before .before .before .before .before .before .before .before in
+    let call = wiped .before .before .before .before .before .before .before .before .before .before .before .before .before .before .before .before .before .before .before .before .before .before .before .before .before .before .before in
+    let i = call .before .before .before .before .before .before .before .before .before .before in
     let p = i .before .before .before .check-pair .ensures in
     let g = i .before .enum-told .given .1 in
     let rank = i .if1 .left in
-    let cleared = good-cleared _ _ _ _ _ p g rank _ _ _ (w .connect-checked .ensures) in
-    let kept = w .connect-checked .kept in
-    let last = w .connect-checked .last in (
-      good-writes _ _ _ _ _ p g rank _ _ _ (w .connect-checked .ensures),
+    let cleared = good-cleared _ _ _ _ _ p g rank _ _ _ (call .connect-checked .ensures) in
+    let kept = call .connect-checked .kept .1 .1 .1 in
+    let last = call .connect-checked .last .1 .1 .1 in
+    let zero = wiped .clear-table .ensures in (
+      good-writes _ _ _ _ _ p g rank _ _ _ (call .connect-checked .ensures),
       (
-        cleared _ (last .1 .1 .1 .0) _ (kept .1 .1 .1 .0) (c .before .before .before .before .before .before .before .before .before .before .before .before .before .before .before .before .before .before .clear-keys .ensures),
+        cleared _ (last .0) _ (kept .0) (zero .0),
         (
-          cleared _ (last .1 .1 .1 .1 .0) _ (kept .1 .1 .1 .1 .0) (c .before .before .before .before .before .before .before .before .before .before .before .before .before .before .clear .ensures),
-          (cleared _ (last .1 .1 .1 .1 .1 .0) _ (kept .1 .1 .1 .1 .1 .0) (c .before .before .before .before .before .before .before .before .before .before .clear2 .ensures), (cleared _ (last .1 .1 .1 .1 .1 .1 .0) _ (kept .1 .1 .1 .1 .1 .1 .0) (c .before .before .before .before .before .before .clear3 .ensures), cleared _ (last .1 .1 .1 .1 .1 .1 .1 .0) _ (kept .1 .1 .1 .1 .1 .1 .1 .0) (c .before .before .clear4 .ensures))),
+          cleared _ (last .1 .0) _ (kept .1 .0) (zero .1 .0),
+          (
+            cleared _ (last .1 .1 .0) _ (kept .1 .1 .0) (zero .1 .1 .0),
+            (
+              cleared _ (last .1 .1 .1 .0) _ (kept .1 .1 .1 .0) (zero .1 .1 .1 .0),
+              (
+                cleared _ (last .1 .1 .1 .1 .0) _ (kept .1 .1 .1 .1 .0) (zero .1 .1 .1 .1 .0),
+                (
+                  cleared _ (last .1 .1 .1 .1 .1 .0) _ (kept .1 .1 .1 .1 .1 .0) (zero .1 .1 .1 .1 .1 .0),
+                  (
+                    cleared _ (last .1 .1 .1 .1 .1 .1 .0) _ (kept .1 .1 .1 .1 .1 .1 .0) (zero .1 .1 .1 .1 .1 .1 .0),
+                    cleared _ (last .1 .1 .1 .1 .1 .1 .1 .0) _ (kept .1 .1 .1 .1 .1 .1 .1 .0) (zero .1 .1 .1 .1 .1 .1 .1),
+                  ),
+                ),
+              ),
+            ),
+          ),
         ),
       ),
     )
@@ -109,11 +124,7 @@ connect-spec =
     refusal-requires-2
     returns
     connect-checked-requires
-    clear-keys-requires
-    clear-requires
-    clear-requires-2
-    clear-requires-3
-    clear-requires-4
+    clear-table-requires
     returns-2
     same-length
     same-length-2
@@ -121,4 +132,7 @@ connect-spec =
     same-length-4
     same-length-5
     same-length-6
+    same-length-7
+    same-length-8
+    same-length-9
     returns-3)

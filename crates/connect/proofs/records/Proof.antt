@@ -1,7 +1,7 @@
--- `connect::records` meets its contract: the smallest of five.
+-- `connect::records` meets its contract: the smallest of eight.
 -- Assumes nothing.
-use borrow.Author.Needs.{needs}
 use Rattle.connect.specs.Answers.{recordsOf}
+use borrow.Author.Needs.{needs}
 use Rattle.connect.proofs.records.Statement.{statement}
 use Rattle.connect.proofs.records.Tie as tie
 
@@ -17,9 +17,28 @@ smaller-requires-3 c κs = search needs
 smaller-requires-4 : tie.Need-smaller-requires-4
 smaller-requires-4 c κs = search needs
 
+smaller-requires-5 : tie.Need-smaller-requires-5
+smaller-requires-5 c κs = search needs
+
+smaller-requires-6 : tie.Need-smaller-requires-6
+smaller-requires-6 c κs = search needs
+
+smaller-requires-7 : tie.Need-smaller-requires-7
+smaller-requires-7 c κs = search needs
+
 returns : tie.Need-returns
 unfolding recordsOf
 returns c = cc
 
 pub records-spec : {M : Type 1} → statement M
-records-spec = tie.close (tie.spec smaller-requires smaller-requires-2 smaller-requires-3 smaller-requires-4 returns)
+records-spec =
+    tie.close
+    (tie.spec
+    smaller-requires
+    smaller-requires-2
+    smaller-requires-3
+    smaller-requires-4
+    smaller-requires-5
+    smaller-requires-6
+    smaller-requires-7
+    returns)

@@ -13,14 +13,17 @@ print-answer-requires c κs = search needs
 
 print-lent-requires : tie.Need-print-lent-requires
 print-lent-requires c κs =
-    let call = c .before .before .before .before .before .before .before .before .before .before .before .before .before .before .before .before .before .before .before in
-    let given = call .before .before .before .before .before .before .before .before .before .before .before .before .before .before .before .pre in
+    let call = c .before .before .before .before .before .before .before .before .before .before .before .before .before .before .before .before .before .before .before .before .before .before .before .before .before .before .before .before in
+    let given = call .before .before .before .before .before .before .before .before .before .before .before .before .before .before .before .before .before .before .before .before .before .pre in
     let kept = call .connect .kept .1 .1 .1 in
     record {
       links-of = omega (arith, given .links-of, kept .0, kept .1 .0);
       marks-of = omega (arith, given .marks-of, kept .0, kept .1 .1 .0);
       order-of = omega (arith, given .order-of, kept .0, kept .1 .1 .1 .0);
       numbers-of = omega (arith, given .numbers-of, kept .0, kept .1 .1 .1 .1 .0);
+      present-of = omega (arith, given .present-of, kept .0, kept .1 .1 .1 .1 .1 .0);
+      last-of = omega (arith, given .last-of, kept .0, kept .1 .1 .1 .1 .1 .1 .0);
+      before-of = omega (arith, given .before-of, kept .0, kept .1 .1 .1 .1 .1 .1 .1 .0);
     }
 
 same-length : tie.Need-same-length
@@ -41,6 +44,15 @@ same-length-5 c = search needs
 same-length-6 : tie.Need-same-length-6
 same-length-6 c = search needs
 
+same-length-7 : tie.Need-same-length-7
+same-length-7 c = search needs
+
+same-length-8 : tie.Need-same-length-8
+same-length-8 c = search needs
+
+same-length-9 : tie.Need-same-length-9
+same-length-9 c = search needs
+
 returns : tie.Need-returns
 returns c = search needs
 
@@ -57,4 +69,7 @@ connect-lent-spec =
     same-length-4
     same-length-5
     same-length-6
+    same-length-7
+    same-length-8
+    same-length-9
     returns)

@@ -1,10 +1,10 @@
--- `stored::pairs::digest` is safe and ends: the figure stays below the prime.
+-- `stored::lent::digest` is safe and ends: the figure stays below the prime.
 -- Assumes nothing.
 use Prim.Native.Nat.{_<_, _≤_, _-_}
 use lib.ListN.{length}
 use borrow.Author.Needs.{needs}
-use Rattle.stored.proofs.pairs.digest.Statement.{statement}
-use Rattle.stored.proofs.pairs.digest.Tie as tie
+use Rattle.stored.proofs.lent.digest.Statement.{statement}
+use Rattle.stored.proofs.lent.digest.Tie as tie
 
 abbrev Inv-loop : tie.InvT-loop
 Inv-loop bytes figure₀ i₀ figure i = (i ≤ length bytes) × (figure < 4294967291)

@@ -1,15 +1,15 @@
--- `stored::pairs::links_are` is safe and ends: the loop passes 42 places, which stand within the list.
+-- `stored::lent::numbers_are` is safe and ends: the loop passes so many places, which stand within the list.
 -- Assumes nothing.
 use Prim.Native.Nat.{_≤_, _-_}
 use borrow.Author.Needs.{needs}
-use Rattle.stored.proofs.pairs.links_are.Statement.{statement}
-use Rattle.stored.proofs.pairs.links_are.Tie as tie
+use Rattle.stored.proofs.lent.numbers_are.Statement.{statement}
+use Rattle.stored.proofs.lent.numbers_are.Tie as tie
 
 abbrev Inv-loop : tie.InvT-loop
-Inv-loop links first value i₀ i = i ≤ 42
+Inv-loop list first size value i₀ i = i ≤ size
 
 abbrev μ-loop : tie.MeasureT-loop
-μ-loop links first value i₀ i = 42 - i
+μ-loop list first size value i₀ i = size - i
 
 loop-holds : tie.Need-loop-holds Inv-loop μ-loop
 loop-holds c = search needs
@@ -38,8 +38,8 @@ loop-again c = search needs
 returns-2 : tie.Need-returns-2 Inv-loop μ-loop
 returns-2 c = search needs
 
-pub links-are-spec : {M : Type 1} → statement M
-links-are-spec =
+pub numbers-are-spec : {M : Type 1} → statement M
+numbers-are-spec =
     tie.close
     (tie.spec
     Inv-loop

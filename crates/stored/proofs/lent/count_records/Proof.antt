@@ -1,17 +1,17 @@
--- `stored::pairs::count_records` is safe and ends: the loop passes the records, and finds at most one at each place.
+-- `stored::lent::count_records` is safe and ends: the loop passes the records, and finds at most one at each place.
 -- Assumes nothing.
 use mathlib.Core.Logic.{⊎-elim}
 use Prim.Native.Nat.{_≤_, _-_}
 use lib.ListN.{length}
 use borrow.Author.Needs.{needs}
-use Rattle.stored.proofs.pairs.count_records.Statement.{statement}
-use Rattle.stored.proofs.pairs.count_records.Tie as tie
+use Rattle.stored.proofs.lent.count_records.Statement.{statement}
+use Rattle.stored.proofs.lent.count_records.Tie as tie
 
 abbrev Inv-loop : tie.InvT-loop
-Inv-loop keys links marks order numbers value found₀ i₀ found i = (i ≤ length keys) × (found ≤ i)
+Inv-loop keys links marks order numbers present last before value found₀ i₀ found i = (i ≤ length keys) × (found ≤ i)
 
 abbrev μ-loop : tie.MeasureT-loop
-μ-loop keys links marks order numbers value found₀ i₀ found i = length keys - i
+μ-loop keys links marks order numbers present last before value found₀ i₀ found i = length keys - i
 
 loop-holds : tie.Need-loop-holds Inv-loop μ-loop
 loop-holds c = search needs
