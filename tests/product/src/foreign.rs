@@ -44,6 +44,9 @@ extern "C" {
         marks: *mut u16, marks_length: usize,
         order: *mut u16, order_length: usize,
         numbers: *mut u16, numbers_length: usize,
+        present: *mut u16, present_length: usize,
+        last: *mut u16, last_length: usize,
+        before: *mut u16, before_length: usize,
         plan: *mut u8, plan_length: usize,
     ) -> Answer;
 

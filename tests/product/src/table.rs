@@ -3,8 +3,8 @@
 use crate::foreign::{adapter_connect, lent, passed, Answer};
 use crate::list::List;
 
-/// How many numbers of each narrow list make a record: links, marks, order, numbers.
-const NARROW: [usize; 4] = [42, 1, 1, 1];
+/// How many numbers of each narrow list make a record: links, marks, order, numbers, present, last, before.
+const NARROW: [usize; 7] = [42, 1, 1, 1, 3, 3, 42];
 
 /// How many numbers a list can have beyond those of its records.
 const MOST_SPARE: usize = 15;
@@ -42,8 +42,8 @@ impl Lent {
     }
 }
 
-/// The lists of a work table: a record has a key, its links, a mark, a place in the plan's order and a plan
-/// number.
+/// The lists of a work table: a record has a key, its links, a mark, a place in the plan's order, a plan
+/// number, its masks of present moves, its last incoming moves and those before its own moves.
 pub struct Table {
     keys: List<u64>,
     narrow: [List<u16>; NARROW.len()],
@@ -80,13 +80,16 @@ impl Table {
     pub fn connect(&mut self, given: &Lent, k: u8, old: &[u8], new: &[u8], plan: &mut [u8]) -> Answer {
         let null = given.null;
         let counts = given.narrow();
-        let [links, marks, order, numbers] = &mut self.narrow;
+        let [links, marks, order, numbers, present, last, before] = &mut self.narrow;
         let (old, new) = (passed(old, null), passed(new, null));
         let keys = lent(self.keys.lent(given.keys()), null);
         let links = lent(links.lent(counts[0]), null);
         let marks = lent(marks.lent(counts[1]), null);
         let order = lent(order.lent(counts[2]), null);
         let numbers = lent(numbers.lent(counts[3]), null);
+        let present = lent(present.lent(counts[4]), null);
+        let last = lent(last.lent(counts[5]), null);
+        let before = lent(before.lent(counts[6]), null);
         let plan = lent(plan, null);
         // Each pointer is that of a slice, passed with its length, or null with length 0; no two of those written
         // to overlap.
@@ -101,6 +104,9 @@ impl Table {
                 marks.0, marks.1,
                 order.0, order.1,
                 numbers.0, numbers.1,
+                present.0, present.1,
+                last.0, last.1,
+                before.0, before.1,
                 plan.0, plan.1,
             )
         };
@@ -115,7 +121,7 @@ mod tests {
     #[test]
     fn spare_elements_make_no_record() {
         for shortest in 0..16 {
-            for spare in [0, 0x0FFF_FFF0, 0x0123_4560, 0x0FED_CBA0] {
+            for spare in [0, 0xF_FFFF_FFF0, 0x1_2345_6780, 0xF_EDCB_A980] {
                 let lent = Lent { records: 3, spare: spare | shortest, null: false };
                 let narrow = lent.narrow().into_iter().zip(NARROW).map(|(elements, size)| elements / size);
                 assert_eq!(narrow.chain([lent.keys()]).min(), Some(3));
@@ -125,7 +131,7 @@ mod tests {
 
     #[test]
     fn a_table_is_unchanged_or_zero() {
-        let lent = Lent { records: 3, spare: 0x0FFF_FFF0, null: false };
+        let lent = Lent { records: 3, spare: 0xF_FFFF_FFF0, null: false };
         let mut table = Table::new(4);
         table.fill(&lent);
         assert!(table.is_as_due(&lent, 1) && table.is_as_due(&lent, 10));
