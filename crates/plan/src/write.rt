@@ -2,11 +2,11 @@
 // next writer is lent the rest.
 ghost use mathlib.Core.Path.{_≡_};
 ghost use mathlib.Core.List.{[], _∷_, _++_};
-ghost use Prim.Native.Nat.{_+_, _*_, _≤_};
+ghost use Prim.Native.Nat.{_≤_};
 ghost use lib.ListN.{length};
 ghost use Rattle.model.specs.Bytes.{le16, le32};
-ghost use Rattle.model.specs.Plan.{moveBytes, rowBytes};
-ghost use Rattle.plan.specs.Front.{front, movesFrom};
+ghost use Rattle.model.specs.Plan.{moveBytes};
+ghost use Rattle.plan.specs.Front.{front};
 
 // A byte: a row's count of moves, n, k.
 pub fn put_byte(out: &mut [u8], x: u8)
@@ -41,22 +41,6 @@ pub fn put_move(out: &mut [u8], code: u8, to: u16)
 {
     put_byte(out, code);
     put_word(&mut out[1..], to);
-}
-
-// A row of size moves, whose codes and next states are lent as two lists: the length of the row.
-pub fn put_row(out: &mut [u8], size: usize, codes: &[u8], nexts: &[u16]) -> usize
-    requires { ⌜ (1 + 3 * size ≤ length (now out)) × (size ≤ 42) × (size ≤ length (now codes)) × (size ≤ length (now nexts)) ⌝ }
-    ensures { λ r. ⌜ (r ≡ 1 + 3 * size) × (now (out .exit) ≡ front (rowBytes (movesFrom (now (codes .entry)) (now (nexts .entry)) 0 size)) (now (out .entry))) ⌝ }
-{
-    put_byte(out, size as u8);
-    let mut i: usize = 0;
-    let mut at: usize = 1;
-    while i < size {
-        put_move(&mut out[at..], codes[i], nexts[i]);
-        i = i + 1;
-        at = at + 3;
-    }
-    at
 }
 
 // The trailer: the offset of the index, the state count, n and k.

@@ -40,7 +40,7 @@ pub fn has_bit(mask: u16, j: u8) -> bool
 }
 
 // How many of the bits below j a mask has.
-pub fn ones_below(mask: u16, j: u8) -> usize
+fn ones_below(mask: u16, j: u8) -> usize
     requires { ⌜ j ≤ 16 ⌝ }
     ensures { λ r. ⌜ r ≡ onesBelow mask j ⌝ }
 {
@@ -100,7 +100,7 @@ pub fn role(b: &[u8]) -> u8
 }
 
 // Where the row of state q begins.
-pub fn row_start(b: &[u8], q: u8) -> usize
+fn row_start(b: &[u8], q: u8) -> usize
     requires { ⌜ IsSheet (now b) × (q < length (contractIn (now b) .states)) ⌝ }
     ensures { λ r. ⌜ r ≡ rowStart (now (b .entry)) q ⌝ }
 {
