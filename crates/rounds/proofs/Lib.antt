@@ -1,7 +1,10 @@
 pub mod Keep
-pub mod Marks
-pub mod Links
+pub mod Unrolled
+pub mod Bits
+pub mod Chains
+pub mod Losing
+pub mod Removing
+pub mod Present
 pub mod Work
 pub mod Rounding
-pub mod Unrolled
 pub mod Settling

@@ -1,2 +1,4 @@
-pub mod Marks
+pub mod Chains
+pub mod Masks
+pub mod Removing
 pub mod Settled
