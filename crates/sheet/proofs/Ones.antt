@@ -3,12 +3,15 @@
 use mathlib.Core.Path.{_≡_, refl, sym, ap, _∙_}
 use mathlib.Core.Bool.{Bool, true, false, cond, _&&_}
 use mathlib.Core.List.{List, [], _∷_}
-use Prim.Native.Nat.{ℕ, zero, suc, _+_, _-_, _/_, _%_, _^_, _<_, _≤_}
-use native.Mathlib.Nat.{div-one, div-div-eq-div-mul, pow-succ'}
+use Prim.Native.Nat.{ℕ, zero, suc, _+_, _*_, _/_, _%_, _^_, _<_, _≤_}
+use native.Mathlib.Nat.{div-one, div-div-eq-div-mul, mod-eq-of-lt, one-mul, pow-suc, pow-succ', pow-le-pow-right}
 use native.Mathlib.Omega.{arith}
-use native.Mathlib.Numerals.{unary-clauses}
 use lib.Dec.{eqb, ltb, leb·suc-suc}
 use lib.ListN.{length}
+use lib.Arith.{mod-mul}
+use lib.Pow.{pow-pos}
+use lib.Count.{ones, ones-ones}
+use lib.Count.{ones-step as digits-step}
 use borrow.Author.Tests.{lt-ltb, le-ltb, eqb-true}
 use Rattle.model.specs.Lists.{keep, upto}
 use Rattle.model.specs.Contract.{State, has, actions, offersIn, offers, offeredBelow}
@@ -24,6 +27,16 @@ unfolding has
 has-half mask j =
     ap (λ (x : ℕ). eqb (x % 2) 1)
     (ap (λ (p : ℕ). mask / p) (pow-succ' 2 j) ∙ sym (div-div-eq-div-mul mask 2 (2 ^ j)))
+
+-- the lowest bits of a mask: those of its half, and the lowest
+pub low-bits : (mask c : ℕ) → mask % 2 ^ suc c ≡ 2 * (mask / 2 % 2 ^ c) + mask % 2
+low-bits mask c =
+    omega (arith, ap (λ (p : ℕ). mask % p) (pow-suc 2 c) ∙ mod-mul mask (pow-pos c) (omega arith))
+
+-- 1 shifted to the left by n stays within a width
+pub one-shifted : (n most : ℕ) {width : ℕ} → n ≤ most → 2 ^ most < width → 1 * 2 ^ n % width ≡ 2 ^ n
+one-shifted n most {width} h l =
+    ap (λ (x : ℕ). x % width) (one-mul (2 ^ n)) ∙ mod-eq-of-lt (omega (arith, pow-le-pow-right {n = 2} (omega arith) h))
 
 -- ---- counts of what passes a test
 module _ {p q : ℕ → Bool} (same : (i : ℕ) → p i ≡ q i) where
@@ -78,18 +91,29 @@ ones-step mask j =
     ∙ count-bit (mask % 2) rest (omega arith)
     ∙ ap (λ (n : ℕ). mask % 2 + n) (count-next (has mask) 0 j ∙ ap length (keep-same (has-half mask) (upto 0 j)))
 
-pub ones-none : (mask j : ℕ) → j ≤ 0 → onesBelow mask j ≡ 0
+ones-none : (mask j : ℕ) → j ≤ 0 → onesBelow mask j ≡ 0
 unfolding onesBelow keep upto
 ones-none mask zero h = refl
 ones-none mask (suc j) h = absurd (omega arith)
 
-pub ones-more : (mask j : ℕ) → 0 < j → onesBelow mask j ≡ mask % 2 + onesBelow (mask / 2) (j - 1)
-ones-more mask zero h = absurd (omega arith)
-ones-more mask (suc j) h = simp (ones-step mask j) (simp unary-clauses)
-
 pub ones-few : (mask j : ℕ) → onesBelow mask j ≤ j
 ones-few mask zero = omega (arith, ones-none mask 0 (omega arith))
 ones-few mask (suc j) = omega (arith, ones-step mask j, ones-few (mask / 2) j)
+
+-- the bits below j are all bits of a number of j digits
+pub ones-low : (mask j : ℕ) → ones (mask % 2 ^ j) ≡ onesBelow mask j
+ones-low mask zero =
+    let e : mask % 2 ^ 0 ≡ 0 = omega arith in
+    ap ones e ∙ ones-ones 0 ∙ sym (ones-none mask 0 (omega arith))
+ones-low mask (suc j) =
+    let rest : ℕ = mask / 2 % 2 ^ j in
+    let low : (2 * rest + mask % 2) % 2 ≡ mask % 2 = omega arith in
+    let high : (2 * rest + mask % 2) / 2 ≡ rest = omega arith in
+    ap ones (low-bits mask j)
+    ∙ digits-step (2 * rest + mask % 2)
+    ∙ (λ i. low i + ones (high i))
+    ∙ ap (λ (n : ℕ). mask % 2 + n) (ones-low (mask / 2) j)
+    ∙ sym (ones-step mask j)
 
 -- a bit that a mask has is not counted among those below it
 pub ones-less : (mask j k : ℕ) → has mask j ≡ true → j < k → onesBelow mask j < onesBelow mask k

@@ -4,7 +4,7 @@ use mathlib.Core.Path.{_≡_, refl, sym, ap, ap₂, _∙_}
 use mathlib.Core.Bool.{Bool, true, false, _&&_, _||_, and-false, or-assoc}
 use mathlib.Core.List.{List, [], _∷_}
 use Prim.Native.Nat.{ℕ, zero, suc, _+_, _*_, _/_, _%_, _^_, _<_, _≤_}
-use native.Mathlib.Nat.{div-div-eq-div-mul, pow-succ', pow-le-pow-right, mul-assoc, div-add-mod}
+use native.Mathlib.Nat.{div-div-eq-div-mul, pow-succ'}
 use native.Mathlib.Omega.{arith}
 use lib.Dec.{eqb, ltb, leb, leb·zero, leb·suc-zero, leb·suc-suc}
 use lib.ListN.{length, getD}
@@ -13,7 +13,7 @@ use borrow.Author.Tests.{le-ltb, le-leb, lt-leb, leb-true, leb-false}
 use Rattle.model.specs.Lists.{any, upto}
 use Rattle.model.specs.Contract.{has, name, takes, actions, offersIn}
 use Rattle.model.specs.Sheet.{strayBit}
-use Rattle.sheet.proofs.Ones.{has-lowest, has-half}
+use Rattle.sheet.proofs.Ones.{low-bits, has-lowest, has-half}
 
 any-same : {p q : ℕ → Bool} → ((i : ℕ) → p i ≡ q i) → (xs : List ℕ) → any p xs ≡ any q xs
 unfolding any
@@ -32,13 +32,6 @@ leb-same a b c d f g = go (leb a b) refl where
   go : (t : Bool) → leb a b ≡ t → leb a b ≡ leb c d
   go true e = e ∙ sym (le-leb c d (f (leb-true a b e)))
   go false e = e ∙ sym (lt-leb c d (g (leb-false a b e)))
-
--- the lowest bits of a mask: those of its half, and the lowest
-low-bits : (mask c : ℕ) → mask % 2 ^ suc c ≡ 2 * (mask / 2 % 2 ^ c) + mask % 2
-low-bits mask c =
-    let e : 2 ^ suc c * (mask / 2 ^ suc c) ≡ 2 * (2 ^ c * (mask / 2 / 2 ^ c)) =
-    rw (pow-succ' 2 c, ← div-div-eq-div-mul mask 2 (2 ^ c), mul-assoc 2 (2 ^ c) (mask / 2 / 2 ^ c)) in
-    omega (arith, e, div-add-mod mask (2 ^ suc c), div-add-mod (mask / 2) (2 ^ c))
 
 some-bit : (bit rest : ℕ) → bit < 2 → ((eqb bit 1 && true) || leb 1 rest) ≡ leb 1 (2 * rest + bit)
 some-bit zero rest h = leb-same 1 rest 1 (2 * rest + 0) (λ l. omega arith) (λ l. omega arith)
@@ -113,10 +106,6 @@ unfolding has
 has-marks mask role h l =
     ap (λ (x : ℕ). eqb (x % 2) 1 || (eqb (mask / 16384 % 2) 1 && eqb role 0)) (sym (div-div-eq-div-mul mask 16384 2))
     ∙ marks role (mask / 16384) l (omega arith)
-
--- 1 shifted to the left by n stays within 16 bits
-pub one-shifted : (n : ℕ) → n ≤ 7 → 1 * 2 ^ n % 65536 ≡ 2 ^ n
-one-shifted n h = omega (arith, pow-le-pow-right {n = 2} (omega arith) h)
 
 -- ---- a stray bit by three tests, `limit` being the first number past the names' bits
 module _ (n role mask limit : ℕ) (l : role ≤ 1) (h : mask < 65536) (e : limit ≡ 2 ^ n) where

@@ -9,11 +9,13 @@ use lib.Dec.{leb}
 use lib.ListN.{length, getD}
 use borrow.Author.Tests.{leb-true, eqb-true}
 use Rattle.model.specs.Bytes.{byte, word}
-use Rattle.model.specs.Contract.{State, state, nowhere, name, offers, after}
+use Rattle.model.specs.Contract.{State, state, nowhere, name, has, offers, after}
 use Rattle.model.specs.Sheet.{Reading, Fault, Trailer, Sheet, good, trailer, goodTrailer, readSheet, sheetOf, contractIn, roleIn}
 use Rattle.model.proofs.Sheet.{WellFormed, good-injective, then-good, sheet-well-formed}
 use Rattle.sheet.specs.Union.{unionOf, onesBelow}
 use Rattle.sheet.specs.Whole.{IsSheet, rowStart}
+use Rattle.sheet.specs.Offer.{offerIn, placeIn}
+use Rattle.sheet.specs.declared.Offer.{Offer}
 use Rattle.sheet.proofs.Union.{has-union}
 use Rattle.sheet.proofs.Ones.{ones-offered, ones-less, ones-place}
 use Rattle.sheet.proofs.Stray.{clean-name, offered-in}
@@ -79,6 +81,11 @@ pub sheet-formed : (b : List ℕ) → IsSheet b → WellFormed (contractIn b)
 unfolding contractIn sheetOf
 sheet-formed b (s, h) = subst⁻¹ (λ (r : Reading Fault Sheet). WellFormed (sheetOf r .contract)) h (sheet-well-formed b s h)
 
+-- the actions of an offer are those that the state offers
+pub offer-has : (b : List ℕ) (q j : ℕ) {o : Offer} → o ≡ offerIn b q → has (o .actions) j ≡ offers (state (contractIn b) q) j
+unfolding offerIn offers
+offer-has b q j e = ap (λ (o : Offer). has (o .actions) j) e ∙ has-union (state (contractIn b) q .ready) j
+
 -- ---- the trailer and the rows
 module _ (b : List ℕ) (whole : IsSheet b) where
   pub count-is : trailer b .count ≡ length (contractIn b .states)
@@ -120,14 +127,17 @@ module _ (b : List ℕ) (whole : IsSheet b) where
           let bit = has-union (s .ready) j ∙ o in
           omega (arith, row-stands .offered, ones-offered (s .ready), ones-less (unionOf (s .ready)) j 14 bit l)
 
-      -- its successor stands behind the masks, at its place
-      pub successor-stands : (start count place : ℕ) → start ≡ rowStart b q → count ≡ length (s .ready)
-          → place ≡ onesBelow (unionOf (s .ready)) j → byte b (start + 1 + 2 * count + place) ≡ after s j
-      unfolding after
-      successor-stands start count place e n p =
-          rw (e, n, p)
-          (row-stands .successors _ place-within
-          ∙ ap (λ (k : ℕ). getD (s .successors) k 0) (sym (ones-place s j (omega arith))))
+      -- its successor stands behind the masks, at its place: the row's offset, 1, 2 for each ready set, and the lower actions offered
+      pub successor-within : {o : Offer} → o ≡ offerIn b q → placeIn o j < length b
+      unfolding offerIn placeIn
+      successor-within e = subst⁻¹ (λ (o : Offer). placeIn o j < length b) e (omega (arith, row-within, place-within))
+
+      pub successor-stands : {o : Offer} → o ≡ offerIn b q → byte b (placeIn o j) ≡ after s j
+      unfolding after offerIn placeIn
+      successor-stands e =
+          ap (λ (o : Offer). byte b (placeIn o j)) e
+          ∙ row-stands .successors _ place-within
+          ∙ ap (λ (k : ℕ). getD (s .successors) k 0) (sym (ones-place s j (omega arith)))
 
       -- its successor is a state
       pub successor-below : after s j < length (contractIn b .states)

@@ -1,3 +1,4 @@
 pub mod Union
 pub mod Answers
 pub mod Whole
+pub mod Offer

@@ -3,12 +3,13 @@ ghost use mathlib.Core.Path.{_≡_};
 ghost use mathlib.Core.Bool.{true};
 ghost use Prim.Native.Nat.{_+_, _≤_, _<_};
 ghost use lib.ListN.{length, getD};
-ghost use Rattle.model.specs.Bytes.{word};
+ghost use Rattle.model.specs.Bytes.{byte, word};
 ghost use Rattle.model.specs.Contract.{state, has, offers, after};
 ghost use Rattle.model.specs.Sheet.{readSheet, contractIn, roleIn};
 ghost use Rattle.sheet.specs.Union.{unionOf, onesBelow};
 ghost use Rattle.sheet.specs.Answers.{checkedOf};
 ghost use Rattle.sheet.specs.Whole.{IsSheet, rowStart};
+ghost use Rattle.sheet.specs.Offer.{offerIn, placeIn};
 
 mod parts;
 
@@ -21,6 +22,13 @@ use parts::read_trailer;
 pub enum Checked {
     Whole,
     Fault(u8, u8, u16),
+}
+
+// What a state offers: its actions, as a mask, and where the successors in its row begin.
+#[repr(C)]
+pub struct Offer {
+    pub actions: u16,
+    pub successors: usize,
 }
 
 // The 16-bit number at an offset.
@@ -44,15 +52,8 @@ fn ones_below(mask: u16, j: u8) -> usize
     requires { ⌜ j ≤ 16 ⌝ }
     ensures { λ r. ⌜ r ≡ onesBelow mask j ⌝ }
 {
-    let mut left = j as usize;
-    let mut rest = mask;
-    let mut ones: usize = 0;
-    while 0 < left {
-        ones = ones + (rest % 2) as usize;
-        rest = rest / 2;
-        left = left - 1;
-    }
-    ones
+    let below: u32 = (1 << j) - 1;
+    u32::count_ones(mask as u32 & below) as usize
 }
 
 // Whether bytes are a sheet, or the first of refusals 1 to 7.
@@ -148,11 +149,30 @@ pub fn offers_action(b: &[u8], q: u8, j: u8) -> bool
     has_bit(offered(b, q), j)
 }
 
+// What state q offers.
+pub fn offer_of(b: &[u8], q: u8) -> Offer
+    requires { ⌜ IsSheet (now b) × (q < length (contractIn (now b) .states)) ⌝ }
+    ensures { λ r. ⌜ r ≡ offerIn (now (b .entry)) q ⌝ }
+{
+    Offer {
+        actions: offered(b, q),
+        successors: row_start(b, q) + 1 + 2 * (ready_count(b, q) as usize),
+    }
+}
+
+// The successor of action j, where it stands among those of an offer.
+pub fn successor_in(b: &[u8], offer: Offer, j: u8) -> u8
+    requires { ⌜ (j ≤ 16) × (placeIn offer j < length (now b)) ⌝ }
+    ensures { λ r. ⌜ r ≡ byte (now (b .entry)) (placeIn offer j) ⌝ }
+{
+    let at = offer.successors + ones_below(offer.actions, j);
+    b[at]
+}
+
 // The state that state q goes on to by an action j that it offers.
 pub fn successor(b: &[u8], q: u8, j: u8) -> u8
     requires { ⌜ IsSheet (now b) × (q < length (contractIn (now b) .states)) × (j < 14) × (offers (state (contractIn (now b)) q) j ≡ true) ⌝ }
     ensures { λ r. ⌜ r ≡ after (state (contractIn (now (b .entry))) q) j ⌝ }
 {
-    let first = row_start(b, q) + 1 + 2 * (ready_count(b, q) as usize);
-    b[first + ones_below(offered(b, q), j)]
+    successor_in(b, offer_of(b, q), j)
 }

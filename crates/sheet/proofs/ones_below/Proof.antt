@@ -1,46 +1,33 @@
--- `sheet::ones_below` meets its contract. The invariant: the bits counted and those left to count are those of the mask.
+-- `sheet::ones_below` meets its contract: the bits of the mask's lowest digits are counted.
 -- Assumes nothing.
-use mathlib.Core.Path.{_≡_}
-use Prim.Native.Nat.{_+_, _≤_}
+use mathlib.Core.Path.{_≡_, ap, _∙_}
+use Prim.Native.Nat.{ℕ, _-_, _*_, _%_, _^_, _≤_}
 use native.Mathlib.Omega.{arith}
+use lib.Bits.{bitAnd, and-mask}
+use lib.Count.{ones}
+use lib.Pow.{pow-pos}
+use borrow.Author.Needs.{needs}
 use Rattle.sheet.specs.Union.{onesBelow}
-use Rattle.sheet.proofs.Ones.{ones-none, ones-more}
+use Rattle.sheet.proofs.Ones.{one-shifted, ones-low, ones-few}
 use Rattle.sheet.proofs.ones_below.Statement.{statement}
 use Rattle.sheet.proofs.ones_below.Tie as tie
 
-abbrev Inv-loop : tie.InvT-loop
-Inv-loop mask j left₀ rest₀ ones₀ left rest ones =
-    (ones + onesBelow rest left ≡ onesBelow mask j) × (ones + left ≤ 16)
+-- what is counted, as the code writes it
+counted : (mask j : ℕ) → j ≤ 16 → ones (bitAnd mask (1 * 2 ^ j % 4294967296 - 1)) ≡ onesBelow mask j
+counted mask j h =
+    ap (λ (p : ℕ). ones (bitAnd mask (p - 1))) (one-shifted j 16 h (omega arith)) ∙ ap ones (and-mask mask j) ∙ ones-low mask j
 
-abbrev μ-loop : tie.MeasureT-loop
-μ-loop mask j left₀ rest₀ ones₀ left rest ones = left
+shl-below : tie.Need-shl-below
+shl-below c = search needs
 
-loop-holds : tie.Need-loop-holds Inv-loop μ-loop
-loop-holds c = omega arith
+sub-below : tie.Need-sub-below
+sub-below c = omega (arith, one-shifted (c .args .j) 16 {width = 4294967296} (c .pre) (omega arith), pow-pos (c .args .j))
 
-cast-ones : tie.Need-cast-ones Inv-loop μ-loop
-cast-ones c = omega arith
+cast-result : tie.Need-cast-result
+cast-result c = omega (arith, counted (c .args .mask) (c .args .j) (c .pre), ones-few (c .args .mask) (c .args .j))
 
-add-ones : tie.Need-add-ones Inv-loop μ-loop
-add-ones c = omega arith
-
-sub-left : tie.Need-sub-left Inv-loop μ-loop
-sub-left c = omega arith
-
-loop-less : tie.Need-loop-less Inv-loop μ-loop
-loop-less c = omega arith
-
-loop-again : tie.Need-loop-again Inv-loop μ-loop
-loop-again c =
-    let l = c .before .loop in
-    omega (arith, ones-more (l .rest) (l .left) (omega arith))
-
-returns : tie.Need-returns Inv-loop μ-loop
-returns c =
-    let l = c .before .loop in
-    omega (arith, ones-none (l .rest) (l .left) (omega arith))
+returns : tie.Need-returns
+returns c = counted (c .args .mask) (c .args .j) (c .pre)
 
 pub ones-below-spec : {M : Type 1} → statement M
-ones-below-spec =
-    tie.close
-    (tie.spec Inv-loop μ-loop loop-holds cast-ones add-ones sub-left loop-less loop-again returns)
+ones-below-spec = tie.close (tie.spec shl-below sub-below cast-result returns)
