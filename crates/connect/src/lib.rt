@@ -1,8 +1,9 @@
 // Connecting two sheets: the answer, the plan, and the work lists afterwards. Document 01, "Which pairs connect" and "Refusals and
 // their order".
+mod lists;
+
 ghost use mathlib.Core.Path.{_≡_};
-ghost use mathlib.Core.List.{map};
-ghost use Prim.Native.Nat.{_≤_, _<_, min};
+ghost use Prim.Native.Nat.{_≤_, _<_};
 ghost use lib.ListN.{length};
 ghost use Rattle.model.specs.Contract.{Contract};
 ghost use Rattle.model.specs.Sheet.{contractIn};
@@ -56,36 +57,6 @@ fn with_counts(number: u8, situations: u16, states: u16, rounds: u16, length: u3
         rounds: rounds,
         length: length,
     }
-}
-
-// How many records the lent lists make.
-fn records(
-    keys: &[u64],
-    links: &[u16],
-    marks: &[u16],
-    order: &[u16],
-    numbers: &[u16],
-    present: &[u16],
-    last: &[u16],
-    before: &[u16],
-) -> usize
-    ensures { λ r. ⌜ r ≡ recordsOf (now (keys .entry)) (now (links .entry)) (now (marks .entry)) (now (order .entry)) (now (numbers .entry)) (now (present .entry)) (now (last .entry)) (now (before .entry)) ⌝ }
-{
-    let moves = smaller(
-        smaller(links.len() / 42, before.len() / 42),
-        smaller(present.len() / 3, last.len() / 3),
-    );
-    let others = smaller(
-        smaller(keys.len(), marks.len()),
-        smaller(order.len(), numbers.len()),
-    );
-    smaller(others, moves)
-}
-
-fn smaller(a: usize, b: usize) -> usize
-    ensures { λ r. ⌜ r ≡ min a b ⌝ }
-{
-    if a < b { a } else { b }
 }
 
 // 13, or the plan written and accepted: `count` situations with their links, those that stay unmarked, the first among them.
@@ -178,8 +149,8 @@ fn connect_checked(
     requires { ⌜ IsSheet (now old) × IsSheet (now new) × (k ≤ 3) ⌝ }
     ensures { λ r. ⌜ Writes (connected k (contractIn (now (old .entry))) (contractIn (now (new .entry))) (limitOf (recordsOf (now (keys .entry)) (now (links .entry)) (now (marks .entry)) (now (order .entry)) (now (numbers .entry)) (now (present .entry)) (now (last .entry)) (now (before .entry)))) (length (now (plan .entry)))) r (now (plan .entry)) (now (plan .exit)) ⌝ }
 {
-    let limit = smaller(
-        records(keys, links, marks, order, numbers, present, last, before),
+    let limit = lists::smaller(
+        lists::records(keys, links, marks, order, numbers, present, last, before),
         4096,
     );
     match reached::explore(old, new, k, limit, keys, links, marks, order) {
@@ -248,57 +219,8 @@ pub fn connect(
                 before,
                 plan,
             );
-            clear_table(keys, links, marks, order, numbers, present, last, before);
+            lists::clear_table(keys, links, marks, order, numbers, present, last, before);
             answer
         }
-    }
-}
-
-// All numbers of the lists become 0.
-fn clear_table(
-    keys: &mut [u64],
-    links: &mut [u16],
-    marks: &mut [u16],
-    order: &mut [u16],
-    numbers: &mut [u16],
-    present: &mut [u16],
-    last: &mut [u16],
-    before: &mut [u16],
-)
-    ensures keys { λ _. ⌜ now (keys .exit) ≡ map (λ x. 0) (now (keys .entry)) ⌝ }
-    ensures links { λ _. ⌜ now (links .exit) ≡ map (λ x. 0) (now (links .entry)) ⌝ }
-    ensures marks { λ _. ⌜ now (marks .exit) ≡ map (λ x. 0) (now (marks .entry)) ⌝ }
-    ensures order { λ _. ⌜ now (order .exit) ≡ map (λ x. 0) (now (order .entry)) ⌝ }
-    ensures numbers { λ _. ⌜ now (numbers .exit) ≡ map (λ x. 0) (now (numbers .entry)) ⌝ }
-    ensures present { λ _. ⌜ now (present .exit) ≡ map (λ x. 0) (now (present .entry)) ⌝ }
-    ensures last { λ _. ⌜ now (last .exit) ≡ map (λ x. 0) (now (last .entry)) ⌝ }
-    ensures before { λ _. ⌜ now (before .exit) ≡ map (λ x. 0) (now (before .entry)) ⌝ }
-{
-    clear_keys(keys);
-    clear(links);
-    clear(marks);
-    clear(order);
-    clear(numbers);
-    clear(present);
-    clear(last);
-    clear(before);
-}
-
-// All numbers of a list become 0.
-fn clear(list: &mut [u16])
-    ensures { λ _. ⌜ now (list .exit) ≡ map (λ x. 0) (now (list .entry)) ⌝ }
-{
-    let count = list.len();
-    table::clear(list, count);
-}
-
-// All keys of a list become 0.
-fn clear_keys(list: &mut [u64])
-    ensures { λ _. ⌜ now (list .exit) ≡ map (λ x. 0) (now (list .entry)) ⌝ }
-{
-    let mut i: usize = 0;
-    while i < list.len() {
-        list[i] = 0;
-        i = i + 1;
     }
 }

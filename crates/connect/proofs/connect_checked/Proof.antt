@@ -1,7 +1,8 @@
 -- `connect::connect_checked` meets its contract: the search is over the limit, or the lists hold what the rest asks for.
 -- Assumes nothing.
 use mathlib.Core.Path.{_∙_}
-use Rattle.connect.proofs.Connecting.{limit-room, limit-is, work-table, writes-over, writes-whole}
+use Rattle.connect.proofs.Room.{limit-room, limit-is}
+use Rattle.connect.proofs.Connecting.{work-table, writes-over, writes-whole}
 use borrow.Author.Needs.{needs}
 use Rattle.connect.proofs.connect_checked.Statement.{statement}
 use Rattle.connect.proofs.connect_checked.Tie as tie

@@ -1,9 +1,9 @@
--- `connect::records` meets its contract: the smallest of eight.
+-- `connect::lists::records` meets its contract: the smallest of eight.
 -- Assumes nothing.
 use Rattle.connect.specs.Answers.{recordsOf}
 use borrow.Author.Needs.{needs}
-use Rattle.connect.proofs.records.Statement.{statement}
-use Rattle.connect.proofs.records.Tie as tie
+use Rattle.connect.proofs.lists.records.Statement.{statement}
+use Rattle.connect.proofs.lists.records.Tie as tie
 
 smaller-requires : tie.Need-smaller-requires
 smaller-requires c κs = search needs

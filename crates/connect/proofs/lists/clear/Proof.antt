@@ -1,11 +1,11 @@
--- `connect::clear` meets its contract: the whole list is its front.
+-- `connect::lists::clear` meets its contract: the whole list is its front.
 -- Assumes nothing.
 use mathlib.Core.Path.{_∙_}
 use native.Mathlib.Omega.{arith}
 use borrow.Author.Needs.{needs}
 use Rattle.table.proofs.Cleared.{cleared-all}
-use Rattle.connect.proofs.clear.Statement.{statement}
-use Rattle.connect.proofs.clear.Tie as tie
+use Rattle.connect.proofs.lists.clear.Statement.{statement}
+use Rattle.connect.proofs.lists.clear.Tie as tie
 
 clear-requires : tie.Need-clear-requires
 clear-requires c κs = search needs

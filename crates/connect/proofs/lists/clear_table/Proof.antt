@@ -1,8 +1,8 @@
--- `connect::clear_table` meets its contract: each list is cleared by its own call.
+-- `connect::lists::clear_table` meets its contract: each list is cleared by its own call.
 -- Assumes nothing.
 use borrow.Author.Needs.{needs}
-use Rattle.connect.proofs.clear_table.Statement.{statement}
-use Rattle.connect.proofs.clear_table.Tie as tie
+use Rattle.connect.proofs.lists.clear_table.Statement.{statement}
+use Rattle.connect.proofs.lists.clear_table.Tie as tie
 
 clear-keys-requires : tie.Need-clear-keys-requires
 clear-keys-requires c κs = search needs

@@ -1,4 +1,4 @@
--- `connect::clear_keys` meets its contract. The loop's invariant: the first i numbers are cleared.
+-- `connect::lists::clear_keys` meets its contract. The loop's invariant: the first i numbers are cleared.
 -- Assumes nothing.
 use mathlib.Core.Path.{_≡_, sym, ap, _∙_}
 use Prim.Native.Nat.{ℕ, _-_}
@@ -8,8 +8,8 @@ use mathlib.Core.List.{List}
 use lib.ListN.{length, set, length-set}
 use Rattle.table.specs.Cleared.{clearedTo}
 use Rattle.table.proofs.Cleared.{cleared-none, cleared-step, cleared-length, cleared-all}
-use Rattle.connect.proofs.clear_keys.Statement.{statement}
-use Rattle.connect.proofs.clear_keys.Tie as tie
+use Rattle.connect.proofs.lists.clear_keys.Statement.{statement}
+use Rattle.connect.proofs.lists.clear_keys.Tie as tie
 
 abbrev Inv-loop : tie.InvT-loop
 Inv-loop list₀ i₀ list i = list ≡ clearedTo i list₀
