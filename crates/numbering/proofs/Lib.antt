@@ -1,5 +1,7 @@
+pub mod Slots
 pub mod Kept
 pub mod Numbered
+pub mod Looking
 pub mod Breadth
 pub mod Rows
 pub mod Bytes
