@@ -16,7 +16,7 @@ use Rattle.model.specs.Plan.{Move, rowBytes, rowsBytes, indexBytes, planBytes, 
 use Rattle.model.proofs.PlanBytes.{length-moves, length-plan}
 use Rattle.numbering.specs.Kept.{statesIn, rowIn, rowsIn, slotsIn, WorkLists, Shown}
 use Rattle.numbering.specs.Numbered.{InOrder}
-use Rattle.numbering.proofs.Slots.{ones-set, ones-clear, ones-end}
+use Rattle.numbering.proofs.Bits.{ones-set, ones-clear, ones-end}
 use Rattle.numbering.proofs.Kept.{slots-small, slot-none, slot-linked}
 use Rattle.numbering.proofs.Rows.{rowFrom, row-whole, row-end, row-none, row-some, row-few, order-at}
 

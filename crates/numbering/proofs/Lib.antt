@@ -1,3 +1,4 @@
+pub mod Bits
 pub mod Slots
 pub mod Kept
 pub mod Numbered

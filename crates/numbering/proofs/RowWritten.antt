@@ -102,7 +102,7 @@ module _ {links marks present : List ℕ} {count i : ℕ} (lists : WorkLists cou
 
   module _ {numbers : List ℕ} (known : Numbers count (statesIn links marks count) numbers) (some : rest ≡ 0 → ⊥) where
     abbrev slot : ℕ
-    slot = from + trailingZeros 64 rest
+    slot = trailingZeros 64 rest
 
     abbrev link : ℕ
     link = getD links (42 * i + slot) 0

@@ -55,14 +55,11 @@ fn write_row(
     let mut rest = moves::kept_slots(present, i);
     plan::write::put_byte(out, u64::count_ones(rest) as u8);
     let mut at: usize = 1;
-    let mut from: usize = 0;
     while rest != 0 {
-        let skip = u64::trailing_zeros(rest);
-        let slot = from + skip as usize;
+        let slot = u64::trailing_zeros(rest) as usize;
         write_move(&mut out[at..], numbers, slot, links[42 * i + slot]);
         at = at + 3;
-        rest = (rest >> skip) / 2;
-        from = slot + 1;
+        rest = rest & (rest - 1);
     }
     at
 }

@@ -1,14 +1,14 @@
 -- `numbering::write::write_row` meets its contract. The loop's invariant: the count and the kept moves of the slots passed stand at
--- the front. The measure is the number of slots left.
+-- the front. The measure is what is left of the mask.
 -- Assumes nothing.
 use mathlib.Core.Path.{ap, _∙_}
-use Prim.Native.Nat.{_-_}
+use Prim.Native.Nat.{ℕ}
 use native.Mathlib.Omega.{arith}
 use lib.ListN.{length}
 use borrow.Author.Needs.{needs}
 use Rattle.plan.proofs.Front.{length-front}
 use Rattle.numbering.specs.Kept.{slotsIn}
-use Rattle.numbering.proofs.Slots.{Left, found-among, left-next}
+use Rattle.numbering.proofs.Slots.{Left, found-among, left-next, left-less}
 use Rattle.numbering.proofs.Kept.{masks-there, all-left}
 use Rattle.numbering.proofs.Rows.{state-below}
 use Rattle.numbering.proofs.Bytes.{moves-few}
@@ -17,11 +17,11 @@ use Rattle.numbering.proofs.write.write_row.Statement.{statement}
 use Rattle.numbering.proofs.write.write_row.Tie as tie
 
 abbrev Inv-loop : tie.InvT-loop
-Inv-loop links marks present numbers count i out₀ rest₀ at₀ from₀ out rest at from =
-    Left (slotsIn present i) rest from × RowOnTheWay links marks count i out₀ out at from
+Inv-loop links marks present numbers count i out₀ rest₀ at₀ out rest at =
+    (from : ℕ) × Left (slotsIn present i) rest from × RowOnTheWay links marks count i out₀ out at from
 
 abbrev μ-loop : tie.MeasureT-loop
-μ-loop links marks present numbers count i out₀ rest₀ at₀ from₀ out rest at from = 42 - from
+μ-loop links marks present numbers count i out₀ rest₀ at₀ out rest at = rest
 
 kept-slots-requires : tie.Need-kept-slots-requires Inv-loop μ-loop
 kept-slots-requires c κs = let p = c .before .before .before .before .before .pre in masks-there (p .1) (state-below (p .0) _ (p .3))
@@ -39,22 +39,19 @@ loop-holds c =
     let p = c .before .before .before .before .before .before .before .before .before .before .pre in
     let here = state-below (p .0) _ (p .3) in
     let slots = c .before .before .before .before .kept-slots .ensures in
-    (all-left (p .1) here slots, row-begun (p .0) (p .1) here slots _ (p .4) (c .before .before .put-byte .ensures))
+    (0, all-left (p .1) here slots, row-begun (p .0) (p .1) here slots _ (p .4) (c .before .before .put-byte .ensures))
 
 cast-slot : tie.Need-cast-slot Inv-loop μ-loop
-cast-slot c = let h = found-among (c .before .loop .inv .0) (c .loop-test .taken) in omega arith
-
-add-slot : tie.Need-add-slot Inv-loop μ-loop
-add-slot c = let h = found-among (c .before .loop .inv .0) (c .loop-test .taken) in omega arith
+cast-slot c = let h = found-among (c .before .loop .inv .1) (c .loop-test .taken) in omega arith
 
 sub-write-move : tie.Need-sub-write-move Inv-loop μ-loop
-sub-write-move c = let h = row-at (c .before .loop .inv .1) in search needs
+sub-write-move c = let h = row-at (c .before .loop .inv .2) in search needs
 
 part-write-move-start : tie.Need-part-write-move-start Inv-loop μ-loop
-part-write-move-start c = let h = row-at (c .before .loop .inv .1) in search needs
+part-write-move-start c = let h = row-at (c .before .loop .inv .2) in search needs
 
 part-write-move-end : tie.Need-part-write-move-end Inv-loop μ-loop
-part-write-move-end c = let h = row-at (c .before .loop .inv .1) in search needs
+part-write-move-end c = let h = row-at (c .before .loop .inv .2) in search needs
 
 mul-write-move : tie.Need-mul-write-move Inv-loop μ-loop
 mul-write-move c = let p = c .before .before .before .before .before .before .before .before .before .before .before .before .before .pre in omega (arith, p .0 .few, state-below (p .0) _ (p .3))
@@ -62,61 +59,55 @@ mul-write-move c = let p = c .before .before .before .before .before .before .be
 add-write-move : tie.Need-add-write-move Inv-loop μ-loop
 add-write-move c =
     let p = c .before .before .before .before .before .before .before .before .before .before .before .before .before .pre in
-    let h = found-among (c .before .before .loop .inv .0) (c .before .loop-test .taken) in
+    let h = found-among (c .before .before .loop .inv .1) (c .before .loop-test .taken) in
     omega (arith, p .0 .few, state-below (p .0) _ (p .3))
 
 mul-write-move-2 : tie.Need-mul-write-move-2 Inv-loop μ-loop
 mul-write-move-2 c =
     let p = c .before .before .before .before .before .before .before .before .before .before .before .before .before .pre in
-    let h = found-among (c .before .before .loop .inv .0) (c .before .loop-test .taken) in
+    let h = found-among (c .before .before .loop .inv .1) (c .before .loop-test .taken) in
     omega (arith, p .0 .few, state-below (p .0) _ (p .3))
 
 shared-slice-read-write-move : tie.Need-shared-slice-read-write-move Inv-loop μ-loop
 shared-slice-read-write-move c =
     let p = c .before .before .before .before .before .before .before .before .before .before .before .before .before .before .pre in
-    let h = found-among (c .before .before .before .loop .inv .0) (c .before .before .loop-test .taken) in
+    let h = found-among (c .before .before .before .loop .inv .1) (c .before .before .loop-test .taken) in
     omega (arith, p .0 .links-room, state-below (p .0) _ (p .3))
 
 write-move-requires : tie.Need-write-move-requires Inv-loop μ-loop
 write-move-requires c κs =
     let p = c .before .before .before .before .before .before .before .before .before .before .before .before .before .before .pre in
     let v = c .before .before .before .loop .inv in
-    move-requires (p .0) (p .1) (p .3) (v .0) (v .1) (p .2) (c .before .before .loop-test .taken)
+    move-requires (p .0) (p .1) (p .3) (v .1) (v .2) (p .2) (c .before .before .loop-test .taken)
 
 add-at : tie.Need-add-at Inv-loop μ-loop
 add-at c =
     let p = c .before .before .before .before .before .before .before .before .before .before .before .before .before .before .before .before .before .pre in
     let v = c .before .before .before .before .before .before .loop .inv in
-    omega (arith, move-small (p .0) (p .1) (p .3) (v .0) (v .1) (p .2) (c .before .before .before .before .before .loop-test .taken))
+    omega (arith, move-small (p .0) (p .1) (p .3) (v .1) (v .2) (p .2) (c .before .before .before .before .before .loop-test .taken))
 
-cast-rest : tie.Need-cast-rest Inv-loop μ-loop
-cast-rest c = let h = found-among (c .before .before .before .before .before .before .loop .inv .0) (c .before .before .before .before .before .loop-test .taken) in omega arith
-
-shr-rest : tie.Need-shr-rest Inv-loop μ-loop
-shr-rest c = let h = found-among (c .before .before .before .before .before .before .loop .inv .0) (c .before .before .before .before .before .loop-test .taken) in omega arith
-
-add-from : tie.Need-add-from Inv-loop μ-loop
-add-from c = let h = found-among (c .before .before .before .before .before .before .loop .inv .0) (c .before .before .before .before .before .loop-test .taken) in omega arith
+sub-rest : tie.Need-sub-rest Inv-loop μ-loop
+sub-rest c = omega arith
 
 loop-less : tie.Need-loop-less Inv-loop μ-loop
-loop-less c = let h = found-among (c .before .before .before .before .before .before .loop .inv .0) (c .before .before .before .before .before .loop-test .taken) in omega arith
+loop-less c = left-less (c .before .before .before .before .before .before .loop .inv .1) (c .before .before .before .before .before .loop-test .taken)
 
 loop-again : tie.Need-loop-again Inv-loop μ-loop
 loop-again c =
     let p = c .before .before .before .before .before .before .before .before .before .before .before .before .before .before .before .before .before .pre in
     let v = c .before .before .before .before .before .before .loop .inv in
     let some = c .before .before .before .before .before .loop-test .taken in
-    (left-next (v .0) some, row-next (p .0) (p .1) (p .3) (v .0) (v .1) (p .2) some (c .before .before .write-move .ensures))
+    (_, left-next (v .1) some, row-next (p .0) (p .1) (p .3) (v .1) (v .2) (p .2) some (c .before .before .write-move .ensures))
 
 same-length : tie.Need-same-length Inv-loop μ-loop
 same-length c =
-    row-same-length (c .before .loop .inv .1) ∙ ap length (c .before .before .before .before .put-byte .ensures) ∙ length-front _ _ (row-room _ (c .before .before .before .before .before .before .before .before .before .before .before .before .pre .4))
+    row-same-length (c .before .loop .inv .2) ∙ ap length (c .before .before .before .before .put-byte .ensures) ∙ length-front _ _ (row-room _ (c .before .before .before .before .before .before .before .before .before .before .before .before .pre .4))
 
 returns : tie.Need-returns Inv-loop μ-loop
 returns c =
     let p = c .before .before .before .before .before .before .before .before .before .before .before .before .pre in
     let v = c .before .loop .inv in
-    row-written (p .0) (p .1) (p .3) (v .0) (v .1) _ (c .loop-test .left) (c .before .before .before .before .before .before .kept-slots .ensures) (c .before .before .before .before .put-byte .ensures)
+    row-written (p .0) (p .1) (p .3) (v .1) (v .2) _ (c .loop-test .left) (c .before .before .before .before .before .before .kept-slots .ensures) (c .before .before .before .before .put-byte .ensures)
 
 pub write-row-spec : {M : Type 1} → statement M
 write-row-spec =
@@ -129,7 +120,6 @@ write-row-spec =
     put-byte-requires
     loop-holds
     cast-slot
-    add-slot
     sub-write-move
     part-write-move-start
     part-write-move-end
@@ -139,9 +129,7 @@ write-row-spec =
     shared-slice-read-write-move
     write-move-requires
     add-at
-    cast-rest
-    shr-rest
-    add-from
+    sub-rest
     loop-less
     loop-again
     same-length
