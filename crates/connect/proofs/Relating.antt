@@ -1,9 +1,9 @@
 -- What follows the search, by cases: the start is marked or not, the plan fits or not.
 -- Assumes nothing.
 use mathlib.Core.Path.{_≡_, refl, sym, ap, subst⁻¹, _∙_}
-use mathlib.Core.Bool.{Bool, true, false, cond}
+use mathlib.Core.Bool.{Bool, true, false, not, cond}
 use mathlib.Core.List.{List, [], _∷_}
-use Prim.Native.Nat.{ℕ, zero, suc, _≤_, _<_}
+use Prim.Native.Nat.{ℕ, zero, suc, _+_, _*_, _≤_, _<_}
 use native.Mathlib.Omega.{arith}
 use lib.ListN.{length, getD, length-map}
 use lib.Dec.{eqb}
@@ -12,15 +12,17 @@ use Rattle.model.specs.Lists.{any, keep, upto}
 use Rattle.model.specs.Contract.{Contract}
 use Rattle.model.specs.Situation.{codes}
 use Rattle.model.specs.Search.{member}
-use Rattle.model.specs.Rounds.{Settled}
+use Rattle.model.specs.Rounds.{Settled, stays}
 use Rattle.model.specs.Plan.{Move, rowOf, planStates, planRows, planBytes}
 use Rattle.model.specs.Sheet.{contractIn}
 use Rattle.model.specs.Connect.{Outcome, counted, emitted}
 use Rattle.plan.specs.Front.{front}
-use Rattle.table.specs.Links.{nextIn, unmarked}
+use Rattle.table.specs.Links.{linked, nextIn, unmarked, LinksWithin}
+use Rattle.rounds.specs.Masks.{MasksLeft}
 use Rattle.rounds.specs.Settled.{settledIn, WorkTable, SettledDone}
-use Rattle.numbering.specs.Kept.{statesIn, rowsIn, WorkLists}
+use Rattle.numbering.specs.Kept.{unlessMarked, keptLink, statesIn, rowsIn, WorkLists, Shown}
 use Rattle.plan.proofs.Front.{front-none}
+use Rattle.rounds.proofs.Present.{leads-none, leads-some}
 use Rattle.connect.specs.Answers.{answerOf, Writes}
 use Rattle.connect.specs.Related.{relatedIn}
 use Rattle.connect.specs.declared.Answer.{Answer}
@@ -121,7 +123,8 @@ module _ (k : ℕ) (σ τ : Contract) (keys links : List ℕ) (count rounds : �
   relate-kept plan′ e w =
       subst⁻¹ (λ (o : Outcome). Writes o r plan plan′) (related-kept k σ τ keys links count (length plan) rounds marks marks′ done some e) w
 
--- the lists are fit for numbering
+-- ---- the lists are fit for numbering
+
 pub work-lists : (old new keys links marks marks′ : List ℕ) (count rounds : ℕ) → WorkTable old new keys links (length marks) count → 0 < count
     → SettledDone (contractIn old) (contractIn new) keys links count rounds marks marks′ → getD marks′ 0 0 ≡ 0 → WorkLists count links marks′
 work-lists old new keys links marks marks′ count rounds t some done e =
@@ -132,4 +135,30 @@ work-lists old new keys links marks marks′ count rounds t some done e =
       marks-room = omega (arith, t .marks-room, done .size);
       links-within = t .links-within;
       start-kept = e;
+    }
+
+-- a link is kept if the situation that it names is unmarked
+kept-shown : (marks : List ℕ) (count link : ℕ) → link ≤ count → stays eqb (unmarked marks count) (linked link) ≡ not (eqb (unlessMarked marks link) 0)
+unfolding unlessMarked
+kept-shown marks count zero h = leads-none marks count refl
+kept-shown marks count (suc t) h = leads-some marks count t refl (omega arith) ∙ go (eqb (getD marks t 0) 0)
+  where
+    go : (b : Bool) → b ≡ not (eqb (cond b (suc t) zero) 0)
+    go true = sym (ap not (ne-eqb (suc t) 0 (λ e. omega arith)))
+    go false = refl
+
+-- the masks that the rounds leave show the kept moves
+pub masks-shown : (links marks present : List ℕ) (count : ℕ) → LinksWithin count links → 3 * count ≤ length present → MasksLeft count links marks present
+    → Shown count links marks present
+unfolding keptLink
+masks-shown links marks present count within room left =
+    record {
+      room = room;
+      low = λ i kind h k. left .low (3 * i + kind) (omega arith);
+      shown =
+          λ i kind j h k l.
+          let e : 14 * (3 * i + kind) + j ≡ 42 * i + (14 * kind + j) = omega arith in
+          left .masks (3 * i + kind) j (omega arith) l
+          ∙ ap (λ (slot : ℕ). stays eqb (unmarked marks count) (linked (getD links slot 0))) e
+          ∙ kept-shown marks count (getD links (42 * i + (14 * kind + j)) 0) (within i (14 * kind + j) h (omega arith));
     }

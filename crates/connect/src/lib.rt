@@ -9,11 +9,13 @@ ghost use Rattle.model.specs.Contract.{Contract};
 ghost use Rattle.model.specs.Sheet.{contractIn};
 ghost use Rattle.model.specs.Connect.{refused, emitted, connected, limitOf, outcomeOf};
 ghost use Rattle.sheet.specs.Whole.{IsSheet};
-ghost use Rattle.numbering.specs.Kept.{WorkLists, rowsIn};
+ghost use Rattle.numbering.specs.Kept.{WorkLists, Shown, rowsIn};
 ghost use Rattle.numbering.specs.Numbered.{Room};
 ghost use Rattle.rounds.specs.Settled.{WorkTable, ListsRoom};
 ghost use Rattle.connect.specs.Answers.{answerOf, recordsOf, afterwards, Writes};
 ghost use Rattle.connect.specs.Related.{relatedIn};
+use numbering::number;
+use numbering::write;
 use pair::Pair;
 use reached::Reach;
 
@@ -59,30 +61,33 @@ fn with_counts(number: u8, situations: u16, states: u16, rounds: u16, length: u3
     }
 }
 
-// 13, or the plan written and accepted: `count` situations with their links, those that stay unmarked, the first among them.
+// 13, or the plan written and accepted: `count` situations with their links and the masks of their kept moves, those that stay
+// unmarked, the first among them.
 fn emit(
     k: u8,
     old: &[u8],
     links: &[u16],
     marks: &[u16],
+    present: &[u16],
     order: &mut [u16],
     numbers: &mut [u16],
     plan: &mut [u8],
     count: u16,
     rounds: u16,
 ) -> Answer
-    requires { ⌜ IsSheet (now old) × WorkLists count (now links) (now marks) × Room count (now order) (now numbers) ⌝ }
+    requires { ⌜ IsSheet (now old) × WorkLists count (now links) (now marks) × Shown count (now links) (now marks) (now present) × Room count (now order) (now numbers) ⌝ }
     ensures { λ r. ⌜ ((τ : Contract) → Writes (emitted k (contractIn (now (old .entry))) τ (length (now (plan .entry))) count rounds (rowsIn (now (links .entry)) (now (marks .entry)) count)) r (now (plan .entry)) (now (plan .exit))) ⌝ }
 {
-    let states = numbering::number::number_states(links, marks, order, numbers, count as usize);
-    let length = numbering::write::plan_length(links, marks, order, count as usize, states);
+    let states = number::number_states(links, marks, present, order, numbers, count as usize);
+    let length = write::plan_length(links, marks, present, order, count as usize, states);
     if plan.len() < length as usize {
         return with_counts(13, count, states, rounds, 0);
     }
     let n = sheet::name_count(old);
-    numbering::write::write_plan(
+    write::write_plan(
         links,
         marks,
+        present,
         order,
         numbers,
         count as usize,
@@ -128,7 +133,18 @@ fn relate(
     if marks[0] != 0 {
         return with_counts(12, count, 0, rounds, 0);
     }
-    emit(k, old, links, marks, order, numbers, plan, count, rounds)
+    emit(
+        k,
+        old,
+        links,
+        marks,
+        present,
+        order,
+        numbers,
+        plan,
+        count,
+        rounds,
+    )
 }
 
 // 11, or what follows: two service sheets over the same names, and k at most 3.

@@ -1,25 +1,66 @@
--- The plan's bytes row by row: one row more appends its bytes, and an entry with the length of the rows before it to the index.
+-- The plan's bytes row by row: a row has as many moves as its masks have bits; one row more appends its bytes, and an entry with
+-- the length of the rows before it to the index.
 -- Assumes nothing.
 use mathlib.Core.Path.{_≡_, refl, sym, ap, _∙_}
+use mathlib.Core.Bool.{Bool, true, false}
 use mathlib.Core.List.{List, [], _∷_, _++_, append-assoc, append-nil}
-use Prim.Native.Nat.{ℕ, _+_, _*_, _≤_, _<_}
+use Prim.Native.Nat.{ℕ, zero, suc, _+_, _*_, _/_, _^_, _≤_, _<_}
 use native.Mathlib.Omega.{arith}
 use native.Mathlib.Numerals.{add-one}
 use lib.ListN.{length, getD, take, drop, length-append, length-map, take-append-drop, List·getD-map}
 use lib.Seq.{take-suc, take-all}
+use lib.Count.{ones}
 use Rattle.model.specs.Bytes.{le32}
+use Rattle.model.specs.Contract.{has}
 use Rattle.model.specs.Plan.{Move, rowBytes, rowsBytes, indexBytes, planBytes, planRows}
 use Rattle.model.proofs.PlanBytes.{length-moves, length-plan}
-use Rattle.numbering.specs.Kept.{statesIn, rowIn, rowsIn}
+use Rattle.numbering.specs.Kept.{statesIn, rowIn, rowsIn, slotsIn, WorkLists, Shown}
 use Rattle.numbering.specs.Numbered.{InOrder}
-use Rattle.numbering.proofs.Rows.{row-few, order-at}
+use Rattle.numbering.proofs.Bits.{ones-set, ones-clear, ones-end}
+use Rattle.numbering.proofs.Kept.{slots-small, slot-none, slot-linked}
+use Rattle.numbering.proofs.Rows.{rowFrom, row-whole, row-end, row-none, row-some, row-few, order-at}
+
+-- ---- how many moves
+
+module _ {count : ℕ} {links marks present : List ℕ} (lists : WorkLists count links marks) (masks : Shown count links marks present)
+    {i : ℕ} (here : i < count) where
+  abbrev mask : ℕ
+  mask = slotsIn present i
+
+  moves-from : (left slot : ℕ) → slot + left ≡ 42 → length (rowFrom links marks count i slot) ≡ ones (mask / 2 ^ slot)
+  moves-from zero slot e =
+      ap length (row-end links marks count i slot (omega arith)) ∙ sym (ones-end mask slot (slots-small masks here) (omega arith))
+  moves-from (suc left) slot e = go (has mask slot) refl (moves-from left (slot + 1) (omega arith))
+    where
+      go : (b : Bool) → has mask slot ≡ b → length (rowFrom links marks count i (slot + 1)) ≡ ones (mask / 2 ^ (slot + 1))
+          → length (rowFrom links marks count i slot) ≡ ones (mask / 2 ^ slot)
+      go true t rest =
+          let kept = slot-linked masks here slot (omega arith) t in
+          omega (arith, row-some links marks count i lists here slot _ (omega arith) (sym (kept .0)) (kept .1), ones-set mask slot t)
+      go false f rest =
+          ap length (row-none links marks count i lists here slot (omega arith) (slot-none masks here slot (omega arith) f))
+          ∙ rest ∙ sym (ones-clear mask slot f)
+
+  -- a row has a move for each bit of its masks, 42 at most
+  pub moves-shown : {slots : ℕ} → slots ≡ mask → ones slots ≡ length (rowIn links marks count i)
+  moves-shown e =
+      let whole : mask / 1 ≡ mask = omega arith in
+      ap ones (e ∙ sym whole) ∙ sym (moves-from 42 0 refl) ∙ ap length (row-whole links marks count i)
+
+  pub moves-few : {slots : ℕ} → slots ≡ mask → ones slots ≤ 42
+  moves-few e = omega (arith, moves-shown e, row-few links marks count i)
+
+-- ---- how many bytes
 
 pub length-row : (row : List Move) → length (rowBytes row) ≡ 1 + 3 * length row
 unfolding rowBytes
 length-row row = omega (arith, length-moves row)
 
-pub row-length : (row : List Move) {moves : ℕ} → moves ≡ length row → 1 + 3 * moves ≡ length (rowBytes row)
-row-length row e = omega (arith, length-row row)
+-- a row has a count byte and three bytes for each bit of its masks
+pub row-shown : {count : ℕ} {links marks present : List ℕ} → WorkLists count links marks → Shown count links marks present → {i : ℕ} → i < count
+    → {bytes : ℕ} → bytes ≡ 1 + 3 * ones (slotsIn present i) → bytes ≡ length (rowBytes (rowIn links marks count i))
+row-shown {count} {links} {marks} lists masks {i} here e =
+    omega (arith, moves-shown lists masks here refl, length-row (rowIn links marks count i))
 
 rows-append : (rows more : List (List Move)) → rowsBytes (rows ++ more) ≡ rowsBytes rows ++ rowsBytes more
 unfolding rowsBytes

@@ -1,5 +1,8 @@
+pub mod Bits
+pub mod Slots
 pub mod Kept
 pub mod Numbered
+pub mod Looking
 pub mod Breadth
 pub mod Rows
 pub mod Bytes

@@ -1,59 +1,43 @@
--- A row is written slot by slot: a kept link writes its move, any other nothing, and all moves together are the row.
+-- A row is written bit by bit of its masks: each bit's slot writes its move, and all moves together are the row.
 -- Assumes nothing.
-use mathlib.Core.Path.{_≡_, refl, sym, ap, _∙_}
+use mathlib.Core.Path.{_≡_, sym, ap, _∙_}
+use mathlib.Core.Bool.{false}
 use mathlib.Core.List.{List, [], _∷_, _++_, append-assoc, append-nil, List·Memᴰ}
-use Prim.Native.Nat.{ℕ, zero, suc, _+_, _*_, _-_, _≤_, _<_}
+use Prim.Native.Nat.{ℕ, _+_, _*_, _-_, _≤_, _<_}
 use native.Mathlib.Omega.{arith}
 use lib.ListN.{length, getD, length-append}
+use lib.Count.{ones, trailingZeros}
 use borrow.Rule.Slice.PartMut.{putMid, midOf}
+use Rattle.model.specs.Contract.{has}
 use Rattle.model.specs.Plan.{Move, moveBytes, rowBytes}
 use Rattle.model.proofs.PlanBytes.{length-moves}
 use Rattle.table.specs.Links.{codeAt}
 use Rattle.plan.specs.Front.{front}
 use Rattle.plan.proofs.Front.{length-front, front-over}
 use Rattle.plan.proofs.Written.{moves-append}
-use Rattle.numbering.specs.Kept.{keptLink, statesIn, rowIn, WorkLists}
+use Rattle.numbering.specs.Kept.{keptLink, statesIn, rowIn, slotsIn, WorkLists, Shown}
 use Rattle.numbering.specs.Numbered.{Numbers, moveBy}
-use Rattle.numbering.proofs.Kept.{kept-within}
-use Rattle.numbering.proofs.Rows.{rowFrom, row-end, row-few, row-whole, row-by-numbers, numbered-link, state-below}
-use Rattle.numbering.proofs.Bytes.{length-row}
+use Rattle.numbering.proofs.Slots.{Left, left-end, left-found, found-set, found-among}
+use Rattle.numbering.proofs.Kept.{kept-within, slot-none, slot-linked}
+use Rattle.numbering.proofs.Rows.{rowFrom, row-end, row-few, row-whole, row-none, row-by-numbers, numbered-link, state-below}
+use Rattle.numbering.proofs.Bytes.{length-row, moves-shown}
 use Rattle.numbering.proofs.Written.{Written, written-over, written-length, written-then, rest-length}
 
 -- ---- a move
 
-module _ (numbers : List ℕ) (slot link : ℕ) where
-  abbrev move : List ℕ
-  move = moveBytes (moveBy numbers slot link)
+length-move : (m : Move) → length (moveBytes (m ∷ [])) ≡ 3
+length-move m = omega (arith, length-moves (m ∷ []))
 
-  pub no-move : (xs : List ℕ) → link ≡ 0 → (0 ≡ length move) × (xs ≡ front move xs)
-  unfolding moveBy moveBytes front
-  no-move xs e = rw e (refl, refl)
-
-  some-move : (link ≡ 0 → ⊥) → moveBy numbers slot link ≡ record { code = codeAt slot; to = getD numbers (link - 1) 0 - 1 } ∷ []
-  unfolding moveBy
-  some-move n = go link n
-    where
-      go : (l : ℕ) → (l ≡ 0 → ⊥) → moveBy numbers slot l ≡ record { code = codeAt slot; to = getD numbers (l - 1) 0 - 1 } ∷ []
-      go zero n = absurd (n refl)
-      go (suc t) n = let e : suc t - 1 ≡ t = omega arith in rw e refl
-
-  move-length : (link ≡ 0 → ⊥) → length move ≡ 3
-  move-length n = omega (arith, length-moves (moveBy numbers slot link), ap length (some-move n))
-
-  pub move-room : {room : ℕ} → (link ≡ 0 → ⊥) → length move ≤ room → 3 ≤ room
-  move-room n h = omega (arith, move-length n)
-
-  pub one-move : (xs : List ℕ) {ys : List ℕ} (code : ℕ) → (link ≡ 0 → ⊥) → code ≡ codeAt slot
-      → ys ≡ front (moveBytes (record { code = code; to = getD numbers (link - 1) 0 - 1 } ∷ [])) xs → (3 ≡ length move) × (ys ≡ front move xs)
-  one-move xs code n c e = (
-    sym (move-length n),
+pub move-written : (numbers : List ℕ) (slot link : ℕ) (xs : List ℕ) {ys : List ℕ} {code : ℕ} → code ≡ codeAt slot
+    → ys ≡ front (moveBytes (record { code = code; to = getD numbers (link - 1) 0 - 1 } ∷ [])) xs
+    → ys ≡ front (moveBytes (moveBy numbers slot link ∷ [])) xs
+unfolding moveBy
+move-written numbers slot link xs c e =
     e ∙ ap (λ (code : ℕ). front (moveBytes (record { code = code; to = getD numbers (link - 1) 0 - 1 } ∷ [])) xs) c
-        ∙ ap (λ (m : List Move). front (moveBytes m) xs) (sym (some-move n)),
-  )
 
 -- ---- a row
 
--- a row on its way: the moves of the slots before `slot` are written behind the row's count
+-- a row on its way: the kept moves of the slots before `slot` are written behind the row's count
 pub record RowOnTheWay (links marks : List ℕ) (count i : ℕ) (first out : List ℕ) (at slot : ℕ) : Type 0 where
   pub done : List Move
   pub all : done ++ rowFrom links marks count i slot ≡ rowIn links marks count i
@@ -63,15 +47,16 @@ pub record RowOnTheWay (links marks : List ℕ) (count i : ℕ) (first out : Lis
 pub row-room : (row : List Move) {room : ℕ} → length (rowBytes row) ≤ room → 1 ≤ room
 row-room row h = omega (arith, length-row row)
 
-pub row-begun : {links marks : List ℕ} {count i size : ℕ} (xs : List ℕ) {first : List ℕ} → length (rowBytes (rowIn links marks count i)) ≤ length xs
-    → size ≡ length (rowIn links marks count i) → first ≡ front (size ∷ []) xs → RowOnTheWay links marks count i first first 1 0
+pub row-begun : {count : ℕ} {links marks present : List ℕ} → WorkLists count links marks → Shown count links marks present → {i : ℕ} → i < count
+    → {slots : ℕ} → slots ≡ slotsIn present i → (xs : List ℕ) {first : List ℕ} → length (rowBytes (rowIn links marks count i)) ≤ length xs
+    → first ≡ front (ones slots ∷ []) xs → RowOnTheWay links marks count i first first 1 0
 unfolding moveBytes
-row-begun {links} {marks} {count} {i} {size} xs h e f =
+row-begun {count} {links} {marks} lists masks {i} here {slots} e xs h f =
     record {
-      fits = omega (arith, ap length f, length-front (size ∷ []) xs (row-room (rowIn links marks count i) h));
+      fits = omega (arith, ap length f, length-front (ones slots ∷ []) xs (row-room (rowIn links marks count i) h));
       done = [];
       all = row-whole links marks count i;
-      is = written-over (length (rowIn links marks count i) ∷ []) xs (f ∙ ap (λ (s : ℕ). front (s ∷ []) xs) e);
+      is = written-over (length (rowIn links marks count i) ∷ []) xs (f ∙ ap (λ (s : ℕ). front (s ∷ []) xs) (moves-shown lists masks here e));
     }
 
 module _ {links marks : List ℕ} {count i : ℕ} {first out : List ℕ} {at slot : ℕ} (way : RowOnTheWay links marks count i first out at slot) where
@@ -90,58 +75,79 @@ module _ {links marks : List ℕ} {count i : ℕ} {first out : List ℕ} {at slo
   pub row-at : at ≤ length out
   row-at = omega (arith, row-size, row-place .0, row-place .1, row-same-length)
 
-  pub row-written : {size : ℕ} (xs : List ℕ) → 42 ≤ slot → size ≡ length row → first ≡ front (size ∷ []) xs → (at ≡ length (rowBytes row)) × (out ≡ front (rowBytes row) xs)
+  row-whole-written : {size : ℕ} (xs : List ℕ) → rowFrom links marks count i slot ≡ [] → size ≡ length row → first ≡ front (size ∷ []) xs
+      → (at ≡ length (rowBytes row)) × (out ≡ front (rowBytes row) xs)
   unfolding rowBytes
-  row-written {size} xs h e f =
-      let whole : way .done ≡ row = sym (append-nil (way .done)) ∙ ap (λ (r : List Move). way .done ++ r) (sym (row-end links marks count i slot h)) ∙ way .all in
+  row-whole-written {size} xs none e f =
+      let whole : way .done ≡ row = sym (append-nil (way .done)) ∙ ap (λ (r : List Move). way .done ++ r) (sym none) ∙ way .all in
       let bytes : length row ∷ moveBytes (way .done) ≡ length row ∷ moveBytes row = ap (λ (m : List Move). length row ∷ moveBytes m) whole in (
         way .is .place ∙ ap length bytes,
         way .is .written ∙ ap (λ (b : List ℕ). front b first) bytes ∙ ap (front (length row ∷ moveBytes row)) f
             ∙ front-over (size ∷ []) (length row ∷ moveBytes row) xs (omega arith),
       )
 
-  module _ (lists : WorkLists count links marks) {numbers : List ℕ} (has : Numbers count (statesIn links marks count) numbers)
-      (state : List·Memᴰ i (statesIn links marks count)) (h : slot < 42) {link : ℕ} (e : link ≡ keptLink links marks i slot) where
-    abbrev here : i < count
-    here = state-below lists i state
+module _ {links marks present : List ℕ} {count i : ℕ} (lists : WorkLists count links marks) (masks : Shown count links marks present)
+    (state : List·Memᴰ i (statesIn links marks count)) {first out : List ℕ} {at rest from : ℕ}
+    (left : Left (slotsIn present i) rest from) (way : RowOnTheWay links marks count i first out at from) where
+  abbrev here : i < count
+  here = state-below lists i state
 
-    turn : rowFrom links marks count i slot ≡ moveBy numbers slot link ++ rowFrom links marks count i (slot + 1)
+  -- a slot without a bit gives no move
+  skips : (j : ℕ) → j < 42 → has (slotsIn present i) j ≡ false → rowFrom links marks count i j ≡ rowFrom links marks count i (j + 1)
+  skips j h f = row-none links marks count i lists here j h (slot-none masks here j h f)
+
+  pub row-written : {slots : ℕ} (xs : List ℕ) → rest ≡ 0 → slots ≡ slotsIn present i → first ≡ front (ones slots ∷ []) xs → (at ≡ length (rowBytes (rowIn links marks count i))) × (out ≡ front (rowBytes (rowIn links marks count i)) xs)
+  row-written xs e s f =
+      row-whole-written way xs (left-end left (rowFrom links marks count i) skips e ∙ row-end links marks count i 42 (omega arith)) (moves-shown lists masks here s) f
+
+  module _ {numbers : List ℕ} (known : Numbers count (statesIn links marks count) numbers) (some : rest ≡ 0 → ⊥) where
+    abbrev slot : ℕ
+    slot = trailingZeros 64 rest
+
+    abbrev link : ℕ
+    link = getD links (42 * i + slot) 0
+
+    abbrev move : Move
+    move = moveBy numbers slot link
+
+    among : slot < 42
+    among = found-among left some
+
+    kept : (link ≡ keptLink links marks i slot) × (0 < link)
+    kept = slot-linked masks here slot among (found-set left some)
+
+    -- the lowest bit gives the next move
+    turn : rowFrom links marks count i from ≡ move ∷ rowFrom links marks count i (slot + 1)
     turn =
-        row-by-numbers links marks count i lists here has state slot h
-        ∙ ap (λ (l : ℕ). moveBy numbers slot l ++ rowFrom links marks count i (slot + 1)) (sym e)
+        left-found left some (rowFrom links marks count i) skips
+        ∙ row-by-numbers links marks count i lists here known state slot among (kept .0) (kept .1)
 
-    move-ends : at + length (moveBytes (moveBy numbers slot link)) ≤ 1 + 3 * length row
-    move-ends =
-        omega (
-          arith,
-          row-size,
-          row-place .0,
-          length-moves (moveBy numbers slot link),
-          ap length turn,
-          length-append (moveBy numbers slot link) (rowFrom links marks count i (slot + 1)),
-        )
+    move-ends : at + 3 ≤ 1 + 3 * length (rowIn links marks count i)
+    move-ends = omega (arith, row-size way, row-place way .0, ap length turn)
 
-    move-fits : at + length (moveBytes (moveBy numbers slot link)) ≤ length out
-    move-fits = omega (arith, move-ends, row-place .1, row-same-length)
+    move-fits : at + 3 ≤ length out
+    move-fits = omega (arith, move-ends, row-place way .1, row-same-length way)
 
     -- a row has 127 bytes at most
-    pub move-small : at + length (moveBytes (moveBy numbers slot link)) ≤ 127
+    pub move-small : at + 3 ≤ 127
     move-small = omega (arith, move-ends, row-few links marks count i)
 
-    pub move-requires : (slot < 42) × (link ≤ length numbers) × (0 < link → 0 < getD numbers (link - 1) 0) × (length (moveBytes (moveBy numbers slot link)) ≤ length (midOf at (length out - at) out))
+    pub move-requires : (slot < 42) × (0 < link) × (link ≤ length numbers) × (0 < getD numbers (link - 1) 0) × (3 ≤ length (midOf at (length out - at) out))
     move-requires = (
-      h,
-      omega (arith, kept-within lists i slot here h, has .room),
-      rw e (numbered-link links marks count i lists here has state slot h),
+      among,
+      kept .1,
+      omega (arith, kept .0, kept-within lists i slot here among, known .room),
+      numbered-link links marks count i lists here known state slot among (kept .0) (kept .1),
       omega (arith, move-fits, rest-length out at),
     )
 
-    pub row-next : {zs : List ℕ} {r : ℕ} → r ≡ length (moveBytes (moveBy numbers slot link)) → zs ≡ front (moveBytes (moveBy numbers slot link)) (midOf at (length out - at) out)
-        → RowOnTheWay links marks count i first (putMid at (length out - at) out zs) (at + r) (slot + 1)
-    row-next size z =
+    pub row-next : {zs : List ℕ} → zs ≡ front (moveBytes (move ∷ [])) (midOf at (length out - at) out)
+        → RowOnTheWay links marks count i first (putMid at (length out - at) out zs) (at + 3) (slot + 1)
+    row-next z =
         record {
           fits = way .fits;
-          done = way .done ++ moveBy numbers slot link;
-          all = append-assoc (way .done) (moveBy numbers slot link) (rowFrom links marks count i (slot + 1)) ∙ ap (λ (m : List Move). way .done ++ m) (sym turn) ∙ way .all;
-          is = written-then (moveBytes (moveBy numbers slot link)) (way .is) (ap (λ (b : List ℕ). length row ∷ b) (sym (moves-append (way .done) (moveBy numbers slot link)))) size (omega (arith, move-fits, row-same-length)) z;
+          done = way .done ++ move ∷ [];
+          all = append-assoc (way .done) (move ∷ []) (rowFrom links marks count i (slot + 1)) ∙ ap (λ (m : List Move). way .done ++ m) (sym turn) ∙ way .all;
+          is = written-then (moveBytes (move ∷ [])) (way .is) (ap (λ (b : List ℕ). length (rowIn links marks count i) ∷ b) (sym (moves-append (way .done) (move ∷ []))))
+              (sym (length-move move)) (omega (arith, move-fits, row-same-length way, length-move move)) z;
         }

@@ -1,45 +1,32 @@
-// The kept moves of a situation: those whose links name situations that are not marked.
+// The kept moves of a situation, as its three masks show them.
 ghost use mathlib.Core.Path.{_≡_};
-ghost use Prim.Native.Nat.{_+_, _*_, _≤_, _<_};
-ghost use lib.ListN.{length, getD};
-ghost use Rattle.model.specs.Plan.{rowBytes};
-ghost use Rattle.numbering.specs.Kept.{keptLink, rowIn, WorkLists};
+ghost use Prim.Native.Nat.{_+_, _*_, _<_};
+ghost use lib.ListN.{length};
+ghost use lib.Count.{ones};
+ghost use Rattle.numbering.specs.Kept.{slotsIn};
 
-// The link of a slot of situation i, or 0 where there is none or the situation that it names is marked.
-pub fn kept_link(links: &[u16], marks: &[u16], i: usize, slot: usize) -> u16
-    requires { ⌜ (42 * i + slot < length (now links)) × (getD (now links) (42 * i + slot) 0 ≤ length (now marks)) ⌝ }
-    ensures { λ r. ⌜ r ≡ keptLink (now (links .entry)) (now (marks .entry)) i slot ⌝ }
+// A mask as a wide number.
+fn wide(mask: u16) -> u64
+    ensures { λ r. ⌜ (r ≡ mask) × (r < 65536) ⌝ }
 {
-    let link = links[42 * i + slot];
-    if link == 0 {
-        return 0;
-    }
-    if marks[(link - 1) as usize] == 0 {
-        return link;
-    }
-    0
+    mask as u64
 }
 
-// How many moves the row of situation i has.
-pub fn count_moves(links: &[u16], marks: &[u16], count: usize, i: usize) -> usize
-    requires { ⌜ WorkLists count (now links) (now marks) × (i < count) ⌝ }
-    ensures { λ r. ⌜ r ≡ length (rowIn (now (links .entry)) (now (marks .entry)) count i) ⌝ }
+// The slots of situation i that have kept moves, as bits: its three masks, one above the other.
+pub fn kept_slots(present: &[u16], i: usize) -> u64
+    requires { ⌜ 3 * i + 2 < length (now present) ⌝ }
+    ensures { λ r. ⌜ r ≡ slotsIn (now (present .entry)) i ⌝ }
 {
-    let mut moves: usize = 0;
-    let mut slot: usize = 0;
-    while slot < 42 {
-        if kept_link(links, marks, i, slot) != 0 {
-            moves = moves + 1;
-        }
-        slot = slot + 1;
-    }
-    moves
+    let straight = wide(present[3 * i]);
+    let client = wide(present[3 * i + 1]);
+    let service = wide(present[3 * i + 2]);
+    straight + 16384 * (client + 16384 * service)
 }
 
-// How many bytes the row of situation i has.
-pub fn row_length(links: &[u16], marks: &[u16], count: usize, i: u16) -> u32
-    requires { ⌜ WorkLists count (now links) (now marks) × (i < count) ⌝ }
-    ensures { λ r. ⌜ r ≡ length (rowBytes (rowIn (now (links .entry)) (now (marks .entry)) count i)) ⌝ }
+// How many bytes the row of situation i has: its count, and three for each kept move.
+pub fn row_length(present: &[u16], i: u16) -> u32
+    requires { ⌜ 3 * i + 2 < length (now present) ⌝ }
+    ensures { λ r. ⌜ r ≡ 1 + 3 * ones (slotsIn (now (present .entry)) i) ⌝ }
 {
-    1 + 3 * (count_moves(links, marks, count, i as usize) as u32)
+    1 + 3 * u64::count_ones(kept_slots(present, i as usize))
 }

@@ -38,7 +38,8 @@ write-plan-requires : tie.Need-write-plan-requires
 write-plan-requires c κs =
     let b = c .before .before .before .before .before in
     let numbered = b .before .before .before .before .before .before .number-states .ensures in
-    (c .before .before .before .before .before .before .before .before .before .before .before .before .before .before .before .before .before .before .before .before .pre .1, numbered .holds, omega (arith, b .plan-length .ensures (c .before .before .before .name-count .result) (c .before .before .before .before .before .before .before .before .before .before .before .before .before .before .before .before .before .before .before .before .args .k)))
+    let s = c .before .before .before .before .before .before .before .before .before .before .before .before .before .before .before .before .before .before .before .before .before in
+    (s .pre .1, s .pre .2, numbered .holds, omega (arith, b .plan-length .ensures (c .before .before .before .name-count .result) (s .args .k)))
 
 with-counts-requires-2 : tie.Need-with-counts-requires-2
 with-counts-requires-2 c κs = search needs

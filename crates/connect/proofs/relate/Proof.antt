@@ -1,7 +1,7 @@
 -- `connect::relate` meets its contract: the rounds leave the start marked, or what follows is the plan of what stays unmarked.
 -- Assumes nothing.
 use native.Mathlib.Omega.{arith}
-use Rattle.connect.proofs.Relating.{relate-removed, relate-kept, work-lists}
+use Rattle.connect.proofs.Relating.{relate-removed, relate-kept, work-lists, masks-shown}
 use borrow.Author.Needs.{needs}
 use Rattle.connect.proofs.relate.Statement.{statement}
 use Rattle.connect.proofs.relate.Tie as tie
@@ -33,14 +33,14 @@ same-length-5 c = search needs
 returns : tie.Need-returns
 returns c =
     let s = c .before .before .before .before .before .before .before .before .before .before .before .before .before .before .before .before .before .before .before .before .before .before .before .before .before .before .before .before .before .before in
-    relate-removed _ _ _ _ _ _ _ _ _ (c .before .before .before .before .before .before .before .before .before .before .before .before .before .settle .ensures) (s .pre .1) _ _ (c .before .if1 .taken) (c .with-counts .ensures)
+    relate-removed _ _ _ _ _ _ _ _ _ (c .before .before .before .before .before .before .before .before .before .before .before .before .before .settle .ensures .0) (s .pre .1) _ _ (c .before .if1 .taken) (c .with-counts .ensures)
 
 emit-requires : tie.Need-emit-requires
 emit-requires c κs =
-    let b = c .before .before .before .before in
+    let b = c .before .before .before .before .before in
     let call = b .before .before .before .before .before .before .before .before .before .before .before .before in
     let s = call .before .before .before .before .before .before .before .before .before .before .before .before .before .before .before .before .before in
-    (s .pre .0 .old-sheet, work-lists _ _ _ _ _ _ _ _ (s .pre .0) (s .pre .1) (call .settle .ensures) (b .if1 .left), record { order-room = omega (arith, s .pre .2 .order-room, call .settle .kept); numbers-room = s .pre .2 .numbers-room })
+    (s .pre .0 .old-sheet, work-lists _ _ _ _ _ _ _ _ (s .pre .0) (s .pre .1) (call .settle .ensures .0) (b .if1 .left), masks-shown _ _ _ _ (s .pre .0 .links-within) (omega (arith, s .pre .3 .present-room, call .settle .kept)) (call .settle .ensures .1), record { order-room = omega (arith, s .pre .2 .order-room, call .settle .kept); numbers-room = s .pre .2 .numbers-room })
 
 same-length-6 : tie.Need-same-length-6
 same-length-6 c = search needs
@@ -66,10 +66,10 @@ same-length-12 c = search needs
 returns-2 : tie.Need-returns-2
 returns-2 c =
     let e = c .before .before .before .before .before .before in
-    let b = e .before .before .before .before .before in
+    let b = e .before .before .before .before .before .before in
     let call = b .before .before .before .before .before .before .before .before .before .before .before .before in
     let s = call .before .before .before .before .before .before .before .before .before .before .before .before .before .before .before .before .before in
-    relate-kept _ _ _ _ _ _ _ _ _ (call .settle .ensures) (s .pre .1) _ _ _ (b .if1 .left) (e .emit .ensures _)
+    relate-kept _ _ _ _ _ _ _ _ _ (call .settle .ensures .0) (s .pre .1) _ _ _ (b .if1 .left) (e .emit .ensures _)
 
 pub relate-spec : {M : Type 1} → statement M
 relate-spec =

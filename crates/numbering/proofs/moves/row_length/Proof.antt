@@ -1,27 +1,24 @@
--- `numbering::moves::row_length` meets its contract: a row has a count byte and three bytes per move, 42 moves at most.
+-- `numbering::moves::row_length` meets its contract: a mask of 64 bits has no more than 64 of them set.
 -- Assumes nothing.
+use mathlib.Core.Path.{ap}
+use Prim.Native.Nat.{ℕ, _+_, _*_}
 use native.Mathlib.Omega.{arith}
-use Rattle.numbering.proofs.Rows.{moves-few}
-use Rattle.numbering.proofs.Bytes.{row-length}
+use lib.Count.{ones, ones-le}
 use borrow.Author.Needs.{needs}
 use Rattle.numbering.proofs.moves.row_length.Statement.{statement}
 use Rattle.numbering.proofs.moves.row_length.Tie as tie
 
-count-moves-requires : tie.Need-count-moves-requires
-count-moves-requires c κs = search needs
-
-cast-result : tie.Need-cast-result
-cast-result c = omega (arith, moves-few _ _ _ _ (c .count-moves .ensures))
+kept-slots-requires : tie.Need-kept-slots-requires
+kept-slots-requires c κs = search needs
 
 mul-result : tie.Need-mul-result
-mul-result c = omega (arith, moves-few _ _ _ _ (c .count-moves .ensures))
+mul-result c = omega (arith, ones-le 64 (c .kept-slots .result) (omega arith))
 
 add-result : tie.Need-add-result
-add-result c = omega (arith, moves-few _ _ _ _ (c .count-moves .ensures))
+add-result c = omega (arith, ones-le 64 (c .kept-slots .result) (omega arith))
 
 returns : tie.Need-returns
-returns c = row-length _ (c .count-moves .ensures)
+returns c = ap (λ (mask : ℕ). 1 + 3 * ones mask) (c .kept-slots .ensures)
 
 pub row-length-spec : {M : Type 1} → statement M
-row-length-spec =
-    tie.close (tie.spec count-moves-requires cast-result mul-result add-result returns)
+row-length-spec = tie.close (tie.spec kept-slots-requires mul-result add-result returns)

@@ -1,13 +1,9 @@
--- `numbering::write::write_move` meets its contract: nothing without a link, and with one the move that its number gives.
+-- `numbering::write::write_move` meets its contract: the move that the number of the situation named gives.
 -- Assumes nothing.
-use native.Mathlib.Omega.{arith}
-use Rattle.numbering.proofs.RowWritten.{no-move, one-move, move-room}
 use borrow.Author.Needs.{needs}
+use Rattle.numbering.proofs.RowWritten.{move-written}
 use Rattle.numbering.proofs.write.write_move.Statement.{statement}
 use Rattle.numbering.proofs.write.write_move.Tie as tie
-
-returns : tie.Need-returns
-returns c = no-move _ _ _ _ (c .if1 .taken)
 
 sub-state : tie.Need-sub-state
 sub-state c = search needs
@@ -22,7 +18,7 @@ shared-slice-read-state : tie.Need-shared-slice-read-state
 shared-slice-read-state c = search needs
 
 sub-state-2 : tie.Need-sub-state-2
-sub-state-2 c = omega (arith, c .before .before .before .before .pre .2 (omega arith))
+sub-state-2 c = search needs
 
 cast-code-at : tie.Need-cast-code-at
 cast-code-at c = search needs
@@ -31,19 +27,18 @@ code-at-requires : tie.Need-code-at-requires
 code-at-requires c κs = search needs
 
 put-move-requires : tie.Need-put-move-requires
-put-move-requires c κs = let p = c .before .before .before .before .before .before .pre in move-room _ _ _ (c .before .before .before .if1 .left) (p .3)
+put-move-requires c κs = search needs
 
 same-length : tie.Need-same-length
 same-length c = search needs
 
-returns-2 : tie.Need-returns-2
-returns-2 c = one-move _ _ _ _ _ (c .before .before .before .before .before .before .if1 .left) (c .before .before .before .code-at .ensures) (c .before .before .put-move .ensures)
+returns : tie.Need-returns
+returns c = move-written _ _ _ _ (c .before .before .before .code-at .ensures) (c .before .before .put-move .ensures)
 
 pub write-move-spec : {M : Type 1} → statement M
 write-move-spec =
     tie.close
     (tie.spec
-    returns
     sub-state
     cast-state
     mul-state
@@ -53,4 +48,4 @@ write-move-spec =
     code-at-requires
     put-move-requires
     same-length
-    returns-2)
+    returns)

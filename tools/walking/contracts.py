@@ -1,0 +1,200 @@
+"""The functions of a crate with their contracts, as its src has them, and the types of their values."""
+import re
+import sys
+from pathlib import Path
+
+from walking.names import taken
+
+
+def words_of(text):
+    return re.findall(r'[(){},;]|[^\s(){},;]+', text)
+
+
+def joined(ws):
+    text = ' '.join(ws)
+    return re.sub(r' ([),;}])', r'\1', re.sub(r'([({]) ', r'\1', text))
+
+
+class Source:
+    """A crate's functions, structs and imports, as its src has them."""
+
+    def __init__(self, crate):
+        self.crate = crate
+        self.uses, self.structs, self.functions = {}, {}, {}
+        for file in sorted(Path('crates', crate, 'src').glob('*.rt')):
+            self.read(re.sub(r'//.*', '', file.read_text()), '' if file.stem == 'lib' else file.stem + '::')
+
+    def read(self, text, inside):
+        for module, names in re.findall(r'ghost use ([^;{]+)\.\{([^}]*)\};', text):
+            module = re.sub(r'Rattle·(\w+)·specs\.specs', r'Rattle·\1.specs', module.strip())
+            for n in names.split(','):
+                self.uses[n.strip()] = module
+        for name, body in re.findall(r'struct (\w+) \{([^}]*)\}', text):
+            self.structs[name] = re.findall(r'pub (\w+): ([^,]+),', body + ',')
+        marks = [(m.start(), m.group(1)) for m in re.finditer(r'^impl (\w+)', text, re.M)]
+        for m in re.finditer(r'^( *)(?:pub )?(?:extern "C" )?fn (\w+)\(([^)]*)\)(?: -> ([^\n{]+?))?\s*\n((?:\s+(?:requires|ensures)[^\n]*\n)*)', text, re.M):
+            owner = [t for at, t in marks if at < m.start()]
+            name = inside + (f'{owner[-1]}::{m.group(2)}' if m.group(1) and owner else m.group(2))
+            params = []
+            for p in filter(None, (p.strip() for p in m.group(3).split(','))):
+                if p == 'self':
+                    params.append(('self', owner[-1]))
+                else:
+                    params.append(tuple(x.strip() for x in p.split(':', 1)))
+            params = [(a, re.sub(r'\s+', ' ', b)) for a, b in params]
+            needs = re.search(r'requires [^\n]*?⌜ (.*) ⌝', m.group(5))
+            gives = re.findall(r'ensures [^\n]*?λ (\S+?)\. ⌜ (.*) ⌝', m.group(5))
+            self.functions[name] = (params, (m.group(4) or '()').strip(), needs and needs.group(1), gives)
+
+
+sources = {}
+
+
+def source(crate):
+    if crate not in sources:
+        sources[crate] = Source(crate)
+    return sources[crate]
+
+
+# ---- types
+
+WIDTH = {'u8': 8, 'u16': 16, 'u32': 32, 'u64': 64, 'usize': 64}
+
+
+class Value:
+    """A type whose values are passed by value: its row, MIR type, machine values and laws, as text."""
+
+    def __init__(self, crate, name):
+        self.name = name = re.sub(r'\s', '', name)
+        self.width = WIDTH.get(name)
+        if self.width:
+            w = self.w = f'w{self.width}'
+            self.row, self.denot, self.ty = name, 'ℕ', f'tyInt {w}'
+            self.spells, self.tells, self.makes = f'uint-vals {w}', f'uint-tells {w}', f'(uint-makes 𝓤 H A W {w})'
+        elif name == 'bool':
+            self.row, self.denot, self.ty = 'bool', 'Bool', 'tyBool'
+            self.spells, self.tells, self.makes = 'bool-vals', 'bool-tells', '(bool-makes 𝓤 H A W)'
+        elif name == '()':
+            self.row, self.denot, self.ty = 'unit', 'Unit {0}', 'tyUnit'
+        elif name.startswith('['):
+            element, n = name[1:-1].split(';')
+            w = self.w = f'w{WIDTH[element]}'
+            self.row, self.denot, self.ty = f'(Array {element} {n})', 'List ℕ', f'tyArray (tyInt {w}) {n}'
+            self.spells, self.tells = f'array-vals (uint-vals {w})', f'(array-tells {element} (uint-vals {w}) (uint-tells {w}) {n})'
+            self.makes = f'(array-makes 𝓤 H A W {element} (uint-makes 𝓤 H A W {w}) {n})'
+            self.lawful = f'array-lawful 𝓤 H A W {element} (uint-lawful 𝓤 H A W {w}) {n}'
+        else:
+            owner, struct = name.split('::') if '::' in name else (crate, name)
+            self.crate, self.struct = owner, struct
+            self.row, self.denot, self.ty = f'{struct}-row.the-row', struct, f'{struct}-laws.mir'
+            self.spells, self.tells = f'(λ d. {struct}-laws.lowered d ∷ [])', f'({struct}-laws.lowers .val-is)'
+            self.makes = f'(LL.makes {struct}-row.the-type {struct}-laws.the-plain 𝓤 H A)'
+
+    def val(self, t):
+        if self.width:
+            return f'vint {self.w} {t}'
+        if self.name.startswith('['):
+            return f'arrayVal (map (vint {self.w}) {t})'
+        return {'bool': f'vbool {t}', '()': 'vunit'}.get(self.name) or f'{self.struct}-laws.lowered {t}'
+
+    def typed(self, t, proof):
+        if self.width:
+            return f'(tt, record {{ fits = {proof} }})'
+        if self.name in ('bool', '()'):
+            return '(tt, tt)'
+        if self.name.startswith('['):
+            return f'({self.lawful} .typed {t} _ {proof} .0)'
+        return f'(LL.lawful {self.struct}-row.the-type {self.struct}-laws.the-laws 𝓤 H A W .typed {t} _ {proof} .0)'
+
+    # the relation, from what a walk has of it: of a number that it fits
+    def relation(self, proof):
+        return f'(refl, {proof})' if self.width else 'refl' if self.name == 'bool' else proof
+
+    def evidence(self, t):
+        if self.width:
+            return f'{t} < 2 ^ {self.width}'
+        return f'Is {self.row} {t} ({self.val(t)} ∷ [])'
+
+    def label(self):
+        return 'fits' if self.width else 'is'
+
+    def uses(self, crate):
+        if self.width or self.name in ('bool', '()') or self.name.startswith('['):
+            return {}
+        own = self.crate == crate
+        p = f'Rattle.{crate}.proofs' if own else f'Rattle.{self.crate}.proofs'
+        s = f'Rattle.{crate}.specs' if own else f'Rattle.{self.crate}.specs'
+        return {f'{p}.{self.struct} as {self.struct}-row': None, f'{p}.{self.struct}.Laws as {self.struct}-laws': None,
+                f'{s}.declared.{self.struct}': {self.struct}}
+
+
+class Param:
+    def __init__(self, crate, name, text):
+        self.name = f'«{name}»' if '_' in name else name
+        self.plain = name.replace('_', '-')
+        m = re.match(r"&(?:'\w+ )?(mut )?\[(.*)\]$", text)
+        self.slice = bool(m)
+        self.mut = bool(m and m.group(1))
+        self.value = Value(crate, m.group(2) if m else text)
+
+
+class Signature:
+    def __init__(self, crate, name):
+        params, result, self.needs, gives = source(crate).functions[name]
+        self.crate, self.name = crate, name
+        self.params = [Param(crate, n, t) for n, t in params]
+        self.result = Value(crate, result)
+        if len(gives) != 1:
+            sys.exit(f'walk: {name} has {len(gives)} clauses `ensures`, one is wanted')
+        self.bound, self.gives = gives[0]
+        self.refs = [p for p in self.params if p.slice]
+
+    def index(self, p):
+        return self.params.index(p)
+
+    def lifetime(self, p):
+        return self.refs.index(p)
+
+    # the antt names of the function
+    def antt(self):
+        return self.name.split('::')[-1].replace('_', '-')
+
+    def key(self):
+        return f'#{self.crate}·' + '·'.join(x.replace('_', '-') for x in self.name.split('::'))
+
+    def module(self, crate):
+        path = self.name.replace('::', '.')
+        return f'Rattle.{crate}.proofs.{path}' if self.crate == crate else f'Rattle.{self.crate}.proofs.{path}'
+
+    # the module of the step of a call of it, in a walk of the crate, and the file if that is the crate's own
+    def step(self, crate):
+        name = ''.join(x.capitalize() for x in re.split(r'_|::', self.name)) + 'Call'
+        if self.crate != crate:
+            if Path('crates', self.crate, 'proofs', name + '.antt').exists():
+                return f'Rattle.{self.crate}.proofs.{name}', None
+            name = self.crate.capitalize() + name
+        return f'Rattle.{crate}.proofs.{name}', name
+
+    def said(self, clause, entry, end, values, result=None):
+        """A clause with its words for parameters and result replaced."""
+        ws, out, i = words_of(clause), [], 0
+        lists = {p.name: p for p in self.refs}
+        while i < len(ws):
+            if ws[i] == 'now' and ws[i + 1] == '(' and ws[i + 3] in ('.entry', '.exit'):
+                p = lists[ws[i + 2]]
+                out.append(entry[p.name] if ws[i + 3] == '.entry' else end[p.name])
+                i += 5
+            elif ws[i] == 'now' and ws[i + 1] in lists:
+                out.append(entry[ws[i + 1]])
+                i += 2
+            elif ws[i] in values:
+                out.append(values[ws[i]])
+                i += 1
+            elif ws[i] == self.bound and result is not None:
+                out.append(result)
+                i += 1
+            else:
+                uses = source(self.crate).uses
+                out.append(ws[i] + '′' if ws[i] in uses and taken(ws[i], uses[ws[i]]) else ws[i])
+                i += 1
+        return joined(out)

@@ -1,0 +1,28 @@
+"""The names that walks share, and whether a contract's word is one of them."""
+import re
+from pathlib import Path
+
+# the crate whose proofs/ has what walks share: Logic, Walk, Lent, Rest, Elements
+HOME = 'situations'
+
+
+def home_of(crate):
+    return f'Rattle.{HOME}.proofs' if crate == HOME else f'Rattle.{HOME}.proofs'
+
+
+def library():
+    """The names that the shared modules pass on or declare, each module with the module that a name comes from."""
+    out = []
+    for module in ('Logic', 'Walk', 'Lent', 'Rest', 'Elements'):
+        text = Path('crates', HOME, 'proofs', module + '.antt').read_text()
+        if module == 'Logic':
+            names = {n.strip().split(' as ')[-1]: m for m, ns in re.findall(r'pub use ([^{\n]+)\.\{([^}]*)\}', text) for n in ns.split(',')}
+        else:
+            names = {n: module for n in re.findall(r'^ *(?:abbrev )?pub (\S+) :', text, re.M)}
+        out.append((module, names))
+    return out
+
+
+def taken(name, module):
+    """Whether a name of a module is the name of something else in a walk: it then has a prime."""
+    return any(name in names and names[name] != module for _, names in library())

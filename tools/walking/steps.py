@@ -1,0 +1,280 @@
+"""Statements of a walk."""
+import sys
+
+from walking.code import items, operand_text, statements
+from walking.contracts import Value, source
+from walking.state import Local
+from walking.text import par, tupled
+
+# a part of the body makes at most so many calls: beyond, the prover may meet its limit of steps
+CALLS = 4
+
+# of a test its term, and what is known where it is true and where it is false, each with its law
+TESTS = {'lt': ('(ltb {a} {b})', ('below', '{a} < {b}'), ('not-below', '{b} ≤ {a}')),
+         'le': ('(leb {a} {b})', ('at-most', '{a} ≤ {b}'), ('above', '{b} < {a}')),
+         'eq': ('(eqb {a} {b})', ('equal', '{a} ≡ {b}'), ('unequal', '{a} ≡ {b} → ⊥')),
+         'ne': ('(not (eqb {a} {b}))', ('unequal', '{a} ≡ {b} → ⊥'), ('not-unequal', '{a} ≡ {b}'))}
+
+
+class Steps:
+    """Statements, each as a step on the context."""
+
+    def cell(self, st, k):
+        c = st.cells[k]
+        if c is None:
+            sys.exit(f'walk: local {k} is read and holds nothing')
+        return c
+
+    def read(self, st, o, shift=0):
+        """An operand: its text, and what it is."""
+        if isinstance(o, str):
+            value = {'unit': Value(self.crate, '()'), 'true': Value(self.crate, 'bool'), 'false': Value(self.crate, 'bool')}[o]
+            return f'{o}-lit !', Local('value', value, o)
+        if o[0] == 'int':
+            return 'lit ! tt', Local('value', self.number(int(o[1])), o[2], 'lit< tt')
+        k, steps = int(o[1][1]), items(o[1][2])
+        c = self.cell(st, k)
+        at = st.pos(('cell', k)) + shift
+        if not steps:
+            return f'load ! (from ! (stop !)) (look ! {at} refl)', c
+        if len(steps) == 1 and steps[0][0] == 'field':
+            m = int(steps[0][1])
+            text = f'load ! (from ! (fld ! refl (stop !))) (look-in ! {at} (sub ! {m} refl (whole !)))'
+            if c.kind == 'slice':
+                if m == 1:
+                    return text, Local('value', self.number(64), f'(length {c.ref.name})', f'(room-{c.ref.plain} .0)')
+                return text, Local('first', ref=c.ref)
+            v = c.value
+            field, ft = source(v.crate).structs[v.struct][m]
+            fv = Value(v.crate, ft)
+            proof = f'(LL.lawful {v.struct}-row.the-type {v.struct}-laws.the-laws 𝓤 H A W .typed {c.term} _ {c.proof} .0 .1{" .1" * m} .0 .fits)'
+            if not fv.width and fv.name != 'bool':
+                sys.exit(f'walk: the field {field} is no number: read it in a covered function')
+            return text, Local('value', fv, f'({c.term} .{field})', proof)
+        sys.exit(f'walk: an operand that is not covered: {operand_text(o)}')
+
+    def write(self, st, k, what):
+        at = st.pos(('cell', k))
+        how = 'init' if st.cells[k] is None else 'store'
+        st.cells[k] = what
+        return f'(from ! (stop !)) ({how} ! {at} refl {what.typed()})'
+
+    def forget(self, st, k):
+        at = st.pos(('cell', k))
+        st.cells[k] = None
+        return f'forget ! {at} refl $ '
+
+    def canon(self, st):
+        return st.front(*[x for p in self.f.refs for x in (('own', p.name), ('tok', p.name))])
+
+    def run(self, stmts, i, st, after):
+        """The script for the statements from i on. `after` says what follows the last: how the turn or the arm goes on."""
+        s = stmts[i]
+        last = i == len(stmts) - 1
+        nl = '\n        '
+        if stmts is self.body and (self.page.has('cut') or st.calls >= CALLS):
+            return self.part(i, st, after)
+
+        def on():
+            return self.ends(st, after) if last else self.run(stmts, i + 1, st, after)
+        if s == 'return':
+            return self.leaves(st)
+        if s == 'skip':
+            return 'skips ! $ ' + self.ends(st, after)
+        head = s[0]
+        if head == 'exit':
+            return 'jumps ! $ ' + self.leave_loop(st)
+        if head == 'assign':
+            target, rv = s[1], s[2]
+            step = 'assigns-last' if last else 'assigns'
+            if items(target[2]):
+                return self.stores(s, st, step, on)
+            k = int(target[1])
+            if rv[0] == 'rvOpd' and rv[1][0] == 'copy' and items(rv[1][1][2]) and items(rv[1][1][2])[0][0] == 'deref':
+                return self.loads(s, st, step, on)
+            text, what, more = self.right(rv, st)
+            return f'{step} ! ({text}) {self.write(st, k, what)} ${nl}' + (more(k) if more else '') + on()
+        if head == 'call':
+            return self.call(s, st, last, on)
+        if head == 'if':
+            return self.branch(stmts, i, st, after)
+        if head == 'block' and s[1][0] == 'loop':
+            return self.loop(stmts, i, st)
+        sys.exit(f'walk: a statement that is not covered: {s}')
+
+    def part(self, i, st, after):
+        """The rest of the body from statement i on as a lemma of its own."""
+        n = self.fresh()
+        live = self.live(self.body[i:], set())
+        dead = ''.join(self.forget(st, k) for k in range(len(self.locals)) if st.cells[k] is not None and k not in live)
+        context = self.context(st)
+        bound = list(st.bound)
+        st.calls = 0
+        script = self.run(self.body, i, st, after)
+        names = ''.join(f'{x} ' for x, _ in bound)
+        self.lemmas.append(f'''
+part-{n} : {"".join(f"({x} : {t}) " for x, t in bound)}{"→ " if bound else ""}Sq W ({context}) (runs (𝓣 .C) (𝓣 .Λ) En this-mir.t-{i + 1} (atRet En Ends))
+part-{n} {names}=
+    {script}
+''')
+        return dead + f'part-{n} {names}'.strip()
+
+    def right(self, rv, st):
+        """A right side: its text, what it is, and a step that follows the assignment."""
+        if rv[0] == 'rvOpd':
+            text, what = self.read(st, rv[1])
+            return f'of-opd ! ({text})', what, None
+        if rv[0] == 'addrOf':
+            k = int(rv[1][1])
+            ref = self.cell(st, k).ref
+            if self.cell(st, k).kind == 'place':
+                return f'addr ! (from ! (hop ! (look ! {st.pos(("cell", k))} refl) (stop !)))', self.cell(st, k), None
+            return f'addr ! (from ! (fld ! refl (hop ! (look-in ! {st.pos(("cell", k))} (sub ! 0 refl (whole !))) (stop !))))', Local('first', ref=ref), None
+        if rv[0] == 'aggregate':
+            parts = [self.read(st, o) for o in items(rv[1])]
+            if len(parts) != 2 or parts[0][1].kind not in ('first', 'place'):
+                sys.exit('walk: a struct is made: make it in a covered function')
+            text = ''.join(f'and-then ! ({t}) (' for t, _ in parts) + 'no-more !' + ')' * len(parts)
+            if parts[0][1].kind == 'place':
+                ref, term = parts[0][1].ref, parts[0][1].term
+                if parts[1][1].term != f'((length {ref.name}) - {term})':
+                    sys.exit(f'walk: a part of a slice that is not its rest: {parts[1][1].term}')
+                return f'agg ! ({text})', Local('rest', None, term, parts[1][1].within, ref), None
+            return f'agg ! ({text})', Local('slice', ref=parts[0][1].ref), None
+        if rv[0] == 'op2':
+            op = rv[1] if isinstance(rv[1], str) else rv[1][0]
+            (ta, a), (tb, b) = self.read(st, rv[2]), self.read(st, rv[3])
+            if op in TESTS:
+                term, *facts = TESTS[op]
+                what = Local('value', Value(self.crate, 'bool'), term.format(a=a.term, b=b.term))
+                what.facts = [(f'({law} {a.term} {b.term})', fact.format(a=a.term, b=b.term)) for law, fact in facts]
+                return f'bin ! ({ta}) ({tb}) tt', what, None
+            if op in ('add', 'sub'):
+                proof, _, _ = self.page.take('fits')
+                sign = '+' if op == 'add' else '-'
+                term = f'({a.term} {sign} {b.term})'
+                fits = f'({proof})'
+                if op == 'sub':
+                    what = Local('value', a.value, term, f'(less-fits {a.term} {b.term} {par(a.proof)})')
+                    what.within = proof
+                    return f'bin ! ({ta}) ({tb}) ({proof})', what, None
+                return f'bin ! ({ta}) ({tb}) (record {{ fits = {proof} }})', Local('value', a.value, term, fits), None
+            if op == 'mul':
+                within, _, _ = self.page.take('within')
+                i = a.term
+                what = Local('value', a.value, f'({i} * {b.term})', None)
+                what.index, what.within, what.size = a, within, b.term
+                # the slice is known where the pointer is made: the proof is of its room
+                ref = self.f.refs[0]
+                what.proof = f'(offset-fits (length {ref.name}) {i} {par(within)} (room-{ref.plain} .1))'
+                return f'bin ! ({ta}) ({tb}) (record {{ fits = {what.proof} }})', what, None
+            if op == 'offset' and a.ref.value.name == 'u8':
+                return f'bin ! ({ta}) ({tb}) tt', Local('place', None, b.term, '', a.ref), None
+            if op == 'offset':
+                what = Local('element', None, b.index.term, b.size, a.ref)
+                what.within = b.within
+                ref = a.ref
+
+                def place(k):
+                    n = st.pos(('cell', k))
+                    return f'rewrite ! {n} (λ (p : ℕ). ‵ (fat fullShare tyPtr l{k} 0 (vptr b-{ref.plain} p))) (sym (place-is {b.size} o-{ref.plain} {what.term})) refl $\n        '
+                return f'bin ! ({ta}) ({tb}) tt', what, place
+        sys.exit(f'walk: a right side that is not covered: {rv}')
+
+    def element(self, st, k):
+        c = self.cell(st, k)
+        ref = c.ref
+        if c.kind != 'element':
+            sys.exit('walk: a byte of a slice: read and write it in a covered function')
+        term, long = st.lists[ref.name]
+        v = ref.value
+        return c, ref, term, f'{par(v.row)} {v.struct}-laws.lowered (named {self.f.lifetime(ref)}) κ-{ref.plain} q-{ref.plain} γ-{ref.plain} b-{ref.plain} o-{ref.plain} (length {ref.name}) {term} {long} room-{ref.plain} {c.term} blank {par(c.within)}', v
+
+    def loads(self, s, st, step, on):
+        k, j = int(s[1][1]), int(s[2][1][1][1])
+        c, ref, term, args, v = self.element(st, j)
+        if ref.mut:
+            sys.exit('walk: an element of a `&mut` slice is read: load it through a `&`')
+        n = self.fresh()
+        text = st.front(('own', ref.name), ('tok', ref.name))
+        st.labels[:2] = ['e', 'eo', 'others', 'obor', 'frac', 'name']
+        got = Local('value', v, f'(getD {term} {c.term} blank)', f'is-{n}')
+        text += f'look-at ! tt {args} {v.tells} (LL.copy {v.struct}-row.the-type {v.struct}-laws.the-copy 𝓤 H A W) (λ u{n} is-{n}.\n        '
+        at = st.pos(('cell', j))
+        text += f'{step} ! (of-opd ! (load ! (from ! (hop ! (look ! {at} refl) (stop !))) (look-raw ! 0 refl))) {self.write(st, k, got)} $\n        '
+        st.labels[:6] = [('own', ref.name), ('tok', ref.name)]
+        return text + f'look-away ! tt {args} u{n} (' + self.canon(st) + on() + '))'
+
+    def stores(self, s, st, step, on):
+        j = int(s[1][1])
+        c, ref, term, args, v = self.element(st, j)
+        n = self.fresh()
+        text = st.front(('own', ref.name), ('tok', ref.name))
+        st.labels[:2] = ['e', 'others', 'obor', 'obs', 'auth']
+        text += f'open-at ! tt {args} {v.tells} (λ is-{n}.\n        '
+        to, what = self.read(st, s[2][1])
+        at = st.pos(('cell', j))
+        text += f'{step} ! (of-opd ! ({to})) (from ! (hop ! (look ! {at} refl) (stop !))) (store-raw ! 0 refl {what.typed()}) $\n        '
+        st.labels[:5] = [('own', ref.name), ('tok', ref.name)]
+        st.lists[ref.name] = (f'(set {term} {c.term} {what.term})', f'(length-set {term} {c.term} {what.term} ∙ {st.lists[ref.name][1]})')
+        return text + f'put-at ! tt {args} {v.makes} {what.term} {what.proof} (' + self.canon(st) + on() + '))'
+
+    def branch(self, stmts, i, st, after):
+        s = stmts[i]
+        to, what = self.read(st, s[1])
+        rest, _, _ = self.page.take('test')
+        yes, no = (rest.split() + [None, None])[:2]
+        n = self.fresh()
+        yes, no = yes or f'yes{n}', no or f'no{n}'
+        self.bound_names |= {yes, no}
+        facts = what.facts or [(f'(holds {what.term})', f'{what.term} ≡ true'), (f'(fails {what.term})', f'{what.term} ≡ false')]
+        nl = '\n        '
+        head = f'({to}) {facts[0][0]} {facts[1][0]}{nl}'
+        when, unless = st.copy(), st.copy()
+        when.bound.append((yes, facts[0][1]))
+        unless.bound.append((no, facts[1][1]))
+        if s[2] == 'skip' and s[3][0] == 'exit':
+            held = self.run(stmts, i + 1, when, after)
+            failed = self.leave_loop(unless)
+            return f'tests ! {head}(λ {yes}. {held}){nl}(λ {no}. {failed})'
+        join = ('join', stmts, i + 1, after)
+        held = self.run(statements(s[2]), 0, when, join)
+        if s[3] == 'skip':
+            failed = self.run(stmts, i + 1, unless, after)
+            return f'guards ! {head}(λ {yes}. {held}){nl}(λ {no}. {failed})'
+        failed = self.run(statements(s[3]), 0, unless, join)
+        return f'forks ! {head}(λ {yes}. {held}){nl}(λ {no}. {failed})'
+
+    def leave_loop(self, st):
+        if any(s[0] == 'call' for s in self.body[self.after_loop:]):
+            st.calls = CALLS
+        return f'exec ! (𝓣 .C) (𝓣 .Λ) En this-mir.t-{self.after_loop + 1} (atRet En Ends) $\n        ' + self.run(self.body, self.after_loop, st, None)
+
+    def ends(self, st, after):
+        """What follows the last statement of a part."""
+        nl = '\n        '
+        if after[0] == 'join':
+            _, stmts, i, beyond = after
+            if stmts is not self.body:
+                if beyond[0] != 'turn':
+                    sys.exit('walk: an arm inside an arm that does not return: put the choice into a covered function')
+                return f'exec ! (𝓣 .C) (𝓣 .Λ) En ({self.code(stmts[i:])}) (anyQ (Turned {beyond[1]["here"]})) ${nl}' + self.run(stmts, i, st, beyond)
+            return f'exec ! (𝓣 .C) (𝓣 .Λ) En this-mir.t-{i + 1} (atRet En Ends) ${nl}' + self.run(stmts, i, st, beyond)
+        # a turn's end
+        _, loop = after
+        _, keys, _ = self.page.take('again')
+        text = ''.join(self.forget(st, k) for k in range(len(self.locals)) if st.cells[k] is not None and k not in loop['live'])
+        parts = [st.cells[k].term for k, _, _ in loop['vars']] + [st.lists[p.name][0] for p, _ in loop['slices']]
+        proofs = [st.cells[k].proof for k, _, v in loop['vars'] if v.name != 'bool'] + [st.lists[p.name][1] for p, _ in loop['slices']] + [keys['inv']]
+        return text + f'again ! Nearer At {loop["here"]} {tupled(parts + proofs)} ({keys.get("nearer", "omega arith")})'
+
+    def leaves(self, st):
+        proof, _, _ = self.page.take('return')
+        c = self.cell(st, 0)
+        text = f'returns-within ! Ends refl (look ! {st.pos(("cell", 0))} refl) $ '
+        text += st.front(*[x for k in range(len(self.locals)) for x in (('cell', k), ('dies', k))])
+        text += ''.join('free1 ! $ ' if st.cells[k] is None else 'gone1 ! $ ' for k in range(len(self.locals))) + 'free0 ! $ '
+        unit = self.f.result.name == '()'
+        args = ([] if unit else [par(c.term)]) + [st.lists[p.name][0] for p in self.f.refs if p.mut]
+        args += ([] if unit or self.f.result.name == 'bool' else [par(c.proof)]) + [st.lists[p.name][1] for p in self.f.refs if p.mut]
+        return text + f'by ! (exits {" ".join(args + [par(proof)])})'
