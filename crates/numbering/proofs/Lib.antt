@@ -1,5 +1,4 @@
 pub mod Bits
-pub mod Slots
 pub mod Kept
 pub mod Numbered
 pub mod Looking

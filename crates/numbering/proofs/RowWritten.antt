@@ -17,7 +17,7 @@ use Rattle.plan.proofs.Front.{length-front, front-over}
 use Rattle.plan.proofs.Written.{moves-append}
 use Rattle.numbering.specs.Kept.{keptLink, statesIn, rowIn, slotsIn, WorkLists, Shown}
 use Rattle.numbering.specs.Numbered.{Numbers, moveBy}
-use Rattle.numbering.proofs.Slots.{Left, left-end, left-found, found-set, found-among}
+use Rattle.table.proofs.Left.{Left, left-end, left-found, found-set, found-among}
 use Rattle.numbering.proofs.Kept.{kept-within, slot-none, slot-linked}
 use Rattle.numbering.proofs.Rows.{rowFrom, row-end, row-few, row-whole, row-none, row-by-numbers, numbered-link, state-below}
 use Rattle.numbering.proofs.Bytes.{length-row, moves-shown}

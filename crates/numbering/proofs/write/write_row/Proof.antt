@@ -8,7 +8,7 @@ use lib.ListN.{length}
 use borrow.Author.Needs.{needs}
 use Rattle.plan.proofs.Front.{length-front}
 use Rattle.numbering.specs.Kept.{slotsIn}
-use Rattle.numbering.proofs.Slots.{Left, found-among, left-next, left-less}
+use Rattle.table.proofs.Left.{Left, found-among, left-next, left-less}
 use Rattle.numbering.proofs.Kept.{masks-there, all-left}
 use Rattle.numbering.proofs.Rows.{state-below}
 use Rattle.numbering.proofs.Bytes.{moves-few}
