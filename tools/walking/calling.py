@@ -28,20 +28,21 @@ class Calling:
             ref = what.ref
             term, long = st.lists[ref.name]
             i = f'{n}-{p.plain}'
-            if what.kind == 'rest':
+            if what.kind in ('rest', 'front'):
                 if not p.mut:
-                    sys.exit('walk: the rest of a slice is lent as `&`: lend it as `&mut`')
+                    sys.exit('walk: a part of a slice is lent as `&`: lend it as `&mut`')
                 text += st.front(('own', ref.name), ('tok', ref.name))
-                text += f'lend-rest {self.rest(st, what)} (λ ν-{i} δ-{i}. '
+                text += f'lend-{what.kind} {self.rest(st, what)} (λ ν-{i} δ-{i}. '
                 st.labels[:2] = [('lt', i), ('lo', i), ('kept', i)]
-                lent[p.name] = (ref, i, ('lt', i), f'(ν-{i} ∷ []) fullShare (lentAt b-{ref.plain} ({what.term} + o-{ref.plain}) δ-{i} (restOf {what.term} {term})) ({what.val()})')
+                at = f'({what.term} + {ref.offset})' if what.kind == 'rest' else ref.offset
+                lent[p.name] = (ref, i, ('lt', i), f'(ν-{i} ∷ []) fullShare (lentAt {ref.block} {at} δ-{i} ({what.kind}Of {what.term} {term})) ({what.val()})')
                 rests[p.name] = what
             elif ref.mut:
                 text += st.front(('own', ref.name), ('tok', ref.name))
-                room = '' if p.mut else f' room-{ref.plain}'
+                room = '' if p.mut else f' {ref.room}'
                 text += f'{"lend" if p.mut else "lend-shared"} ! tt {self.slice(ref)} {term} {long}{room} (λ ν-{i} δ-{i}. '
                 st.labels[:2] = [('lt', i), ('lo', i), ('kept', i)]
-                lent[p.name] = (ref, i, ('lt', i), f'(ν-{i} ∷ []) fullShare (lentAt b-{ref.plain} o-{ref.plain} δ-{i} {term}) s-{ref.plain}')
+                lent[p.name] = (ref, i, ('lt', i), f'(ν-{i} ∷ []) fullShare (lentAt {ref.block} {ref.offset} δ-{i} {term}) {ref.val}')
             else:
                 text += st.front(('own', ref.name))
                 text += f'share ! {par(ref.value.row)} (named {self.f.lifetime(ref)}) κ-{ref.plain} (lentAt b-{ref.plain} o-{ref.plain} γ-{ref.plain} {ref.name}) (s-{ref.plain} ∷ []) ('
@@ -60,7 +61,7 @@ class Calling:
                 given.append(lent[p.name][3])
                 entry[p.name] = st.lists[lent[p.name][0].name][0]
                 if p.name in rests:
-                    entry[p.name] = f'(restOf {rests[p.name].term} {entry[p.name]})'
+                    entry[p.name] = f'({rests[p.name].kind}Of {rests[p.name].term} {entry[p.name]})'
             else:
                 given.append(par(what.term))
                 values[p.name] = par(what.term)
@@ -97,20 +98,20 @@ class Calling:
             term, long = st.lists[ref.name]
             if p.name in rests:
                 text += st.front(token, ('kept', i), ('fin', p.name))
-                text += f'regain-rest {self.rest(st, rests[p.name])} ν-{i} δ-{i} {new[p.name]} ('
+                kind, at = rests[p.name].kind, rests[p.name].term
+                text += f'regain-{kind} {self.rest(st, rests[p.name])} ν-{i} δ-{i} {new[p.name]} ('
                 st.labels[:3] = [('own', ref.name), ('tok', ref.name)]
-                at = rests[p.name].term
-                st.lists[ref.name] = (f'(withRest {at} {term} {new[p.name]})', f'(rest-long {at} {term} {new[p.name]} same-{new[p.name]} ∙ {long})')
+                st.lists[ref.name] = (f'(with{kind.capitalize()} {at} {term} {new[p.name]})', f'({kind}-long {at} {term} {new[p.name]} same-{new[p.name]} ∙ {long})')
                 close += ')'
             elif p.mut:
                 text += st.front(token, ('kept', i), ('fin', p.name))
-                text += f'regain ! tt {self.slice(ref)} {term} {long} ν-{i} δ-{i} {new[p.name]} room-{ref.plain} same-{new[p.name]} ('
+                text += f'regain ! tt {self.slice(ref)} {term} {long} ν-{i} δ-{i} {new[p.name]} {ref.room} same-{new[p.name]} ('
                 st.labels[:3] = [('own', ref.name), ('tok', ref.name)]
                 st.lists[ref.name] = (new[p.name], f'(same-{new[p.name]} ∙ {long})')
                 close += ')'
             elif ref.mut:
                 text += st.front(token, ('kept', i))
-                text += f'regain-shared ! tt {self.slice(ref)} {term} {long} ν-{i} room-{ref.plain} ('
+                text += f'regain-shared ! tt {self.slice(ref)} {term} {long} ν-{i} {ref.room} ('
                 st.labels[:2] = [('own', ref.name), ('tok', ref.name)]
                 close += ')'
         text += self.canon(st)

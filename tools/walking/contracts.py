@@ -20,7 +20,7 @@ class Source:
 
     def __init__(self, crate):
         self.crate = crate
-        self.uses, self.structs, self.functions = {}, {}, {}
+        self.uses, self.structs, self.modules, self.functions, self.public = {}, {}, {}, {}, set()
         for file in sorted(Path('crates', crate, 'src').glob('*.rt')):
             self.read(re.sub(r'//.*', '', file.read_text()), '' if file.stem == 'lib' else file.stem + '::')
 
@@ -31,10 +31,13 @@ class Source:
                 self.uses[n.strip()] = module
         for name, body in re.findall(r'struct (\w+) \{([^}]*)\}', text):
             self.structs[name] = re.findall(r'pub (\w+): ([^,]+),', body + ',')
+            self.modules[name] = inside.replace('::', '.')
         marks = [(m.start(), m.group(1)) for m in re.finditer(r'^impl (\w+)', text, re.M)]
         for m in re.finditer(r'^( *)(?:pub )?(?:extern "C" )?fn (\w+)\(([^)]*)\)(?: -> ([^\n{]+?))?\s*\n((?:\s+(?:requires|ensures)[^\n]*\n)*)', text, re.M):
             owner = [t for at, t in marks if at < m.start()]
             name = inside + (f'{owner[-1]}::{m.group(2)}' if m.group(1) and owner else m.group(2))
+            if 'pub ' in m.group(0).split('fn ')[0]:
+                self.public.add(name)
             params = []
             for p in filter(None, (p.strip() for p in m.group(3).split(','))):
                 if p == 'self':
@@ -84,7 +87,7 @@ class Value:
             self.makes = f'(array-makes 𝓤 H A W {element} (uint-makes 𝓤 H A W {w}) {n})'
             self.lawful = f'array-lawful 𝓤 H A W {element} (uint-lawful 𝓤 H A W {w}) {n}'
         else:
-            owner, struct = name.split('::') if '::' in name else (crate, name)
+            owner, struct = (name.split('::')[0], name.split('::')[-1]) if '::' in name else (crate, name)
             self.crate, self.struct = owner, struct
             self.row, self.denot, self.ty = f'{struct}-row.the-row', struct, f'{struct}-laws.mir'
             self.spells, self.tells = f'(λ d. {struct}-laws.lowered d ∷ [])', f'({struct}-laws.lowers .val-is)'
@@ -124,11 +127,15 @@ class Value:
         own = self.crate == crate
         p = f'Rattle.{crate}.proofs' if own else f'Rattle.{self.crate}.proofs'
         s = f'Rattle.{crate}.specs' if own else f'Rattle.{self.crate}.specs'
-        return {f'{p}.{self.struct} as {self.struct}-row': None, f'{p}.{self.struct}.Laws as {self.struct}-laws': None,
-                f'{s}.declared.{self.struct}': {self.struct}}
+        path = source(self.crate).modules[self.struct] + self.struct
+        return {f'{p}.{path} as {self.struct}-row': None, f'{p}.{path}.Laws as {self.struct}-laws': None,
+                f'{s}.declared.{path}': {self.struct}}
 
 
 class Param:
+    """A parameter. Of a slice: its lifetime, share, place, ghost name, count, machine value and room, as a walk names them."""
+    local = None
+
     def __init__(self, crate, name, text):
         self.name = f'«{name}»' if '_' in name else name
         self.plain = name.replace('_', '-')
@@ -136,6 +143,26 @@ class Param:
         self.slice = bool(m)
         self.mut = bool(m and m.group(1))
         self.value = Value(crate, m.group(2) if m else text)
+        self.kappa, self.share, self.ghost = f'κ-{self.plain}', f'q-{self.plain}', f'γ-{self.plain}'
+        self.block, self.offset = f'b-{self.plain}', f'o-{self.plain}'
+        self.count, self.val, self.room = f'length {self.name}', f's-{self.plain}', f'room-{self.plain}'
+
+
+class Table(Param):
+    """A local array, lent as a `&mut` slice where it is made."""
+
+    def __init__(self, name, value, local, count):
+        self.name = self.plain = name
+        self.slice = self.mut = True
+        self.value, self.local, self.count = value, local, count
+        self.kappa, self.share, self.ghost = f'(ν-{name} ∷ [])', 'fullShare', f'γ-{name}'
+        self.block, self.offset = f'l{local}', '0'
+        self.val, self.room = f'(sliceVal (l{local}, 0) {count})', f'room-{name}'
+
+    def laws(self):
+        """What the steps of LocalTable ask of the element's type."""
+        s = self.value.struct
+        return f'tt {self.value.makes} (LL.copy {s}-row.the-type {s}-laws.the-copy 𝓤 H A W) {self.room}'
 
 
 class Signature:
@@ -153,7 +180,7 @@ class Signature:
         return self.params.index(p)
 
     def lifetime(self, p):
-        return self.refs.index(p)
+        return 0 if p.local else self.refs.index(p)
 
     # the antt names of the function
     def antt(self):
@@ -187,7 +214,7 @@ class Signature:
             elif ws[i] == 'now' and ws[i + 1] in lists:
                 out.append(entry[ws[i + 1]])
                 i += 2
-            elif ws[i] in values:
+            elif ws[i] in values and ws[i + 1:i + 2] != ['=']:
                 out.append(values[ws[i]])
                 i += 1
             elif ws[i] == self.bound and result is not None:

@@ -29,6 +29,8 @@ class Looping:
                 got = reads(rv[2]) | reads(rv[3])
             elif rv[0] == 'addrOf':
                 got = {int(rv[1][1])}
+            elif rv[0] == 'repeat':
+                got = reads(rv[1])
             elif rv[0] == 'aggregate':
                 got = set().union(*map(reads, items(rv[1])))
             return (wanted | {k} if items(s[1][2]) else wanted - {k}) | got
@@ -56,7 +58,7 @@ class Looping:
         named = {m[1]: m[2] for m in more if m[0] == 'var'}
         lists = {m[1]: m[2] for m in more if m[0] == 'slice'}
         text = ''.join(self.forget(st, k) for k in range(len(self.locals)) if st.cells[k] is not None and k not in live)
-        loop = {'live': live, 'vars': [(int(k), n, st.cells[int(k)].value) for k, n in named.items()], 'slices': [(p, lists[p.plain]) for p in self.f.refs if p.plain in lists]}
+        loop = {'live': live, 'vars': [(int(k), n, st.cells[int(k)].value) for k, n in named.items()], 'slices': [(p, lists[p.plain]) for p in st.refs if p.plain in lists]}
         start = [st.cells[k].term for k, _, _ in loop['vars']] + [st.lists[p.name][0] for p, _ in loop['slices']]
         start += [st.cells[k].proof for k, _, v in loop['vars'] if v.name != 'bool'] + [st.lists[p.name][1] for p, _ in loop['slices']] + [keys['begin']]
         outer = list(st.bound)
@@ -69,7 +71,7 @@ class Looping:
         for p, n in loop['slices']:
             inside.lists[p.name] = (n, f'long-{n}')
             binders.append((n, f'List {par(p.value.denot)}'))
-        facts = [(f'{v.label()}-{n}', v.evidence(n)) for k, n, v in loop['vars'] if v.name != 'bool'] + [(f'long-{n}', f'length {n} ≡ length {p.name}') for p, n in loop['slices']] + [('known', keys['inv'])]
+        facts = [(f'{v.label()}-{n}', v.evidence(n)) for k, n, v in loop['vars'] if v.name != 'bool'] + [(f'long-{n}', f'length {n} ≡ {p.count}') for p, n in loop['slices']] + [('known', keys['inv'])]
         loop['here'] = tupled([n for n, _ in binders + facts])
         self.bound_names |= {n for n, _ in binders + facts}
         inside.bound += binders + facts

@@ -2,8 +2,9 @@
 import re
 from pathlib import Path
 
-# the crate whose proofs/ has what walks share: Logic, Walk, Lent, Rest, Elements
+# the crate whose proofs/ has what walks share
 HOME = 'situations'
+SHARED = ('Logic', 'Walk', 'Lent', 'Rest', 'Front', 'LocalTable', 'Elements', 'Places')
 
 
 def home_of(crate):
@@ -13,7 +14,7 @@ def home_of(crate):
 def library():
     """The names that the shared modules pass on or declare, each module with the module that a name comes from."""
     out = []
-    for module in ('Logic', 'Walk', 'Lent', 'Rest', 'Elements'):
+    for module in SHARED:
         text = Path('crates', HOME, 'proofs', module + '.antt').read_text()
         if module == 'Logic':
             names = {n.strip().split(' as ')[-1]: m for m, ns in re.findall(r'pub use ([^{\n]+)\.\{([^}]*)\}', text) for n in ns.split(',')}

@@ -30,6 +30,8 @@ class Steps:
         if isinstance(o, str):
             value = {'unit': Value(self.crate, '()'), 'true': Value(self.crate, 'bool'), 'false': Value(self.crate, 'bool')}[o]
             return f'{o}-lit !', Local('value', value, o)
+        if o[0] == 'int' and int(o[2]) > 1023:
+            return 'big-lit 𝓤 H A W (record { fits = lit< tt })', Local('value', self.number(int(o[1])), o[2], 'lit< tt')
         if o[0] == 'int':
             return 'lit ! tt', Local('value', self.number(int(o[1])), o[2], 'lit< tt')
         k, steps = int(o[1][1]), items(o[1][2])
@@ -42,7 +44,7 @@ class Steps:
             text = f'load ! (from ! (fld ! refl (stop !))) (look-in ! {at} (sub ! {m} refl (whole !)))'
             if c.kind == 'slice':
                 if m == 1:
-                    return text, Local('value', self.number(64), f'(length {c.ref.name})', f'(room-{c.ref.plain} .0)')
+                    return text, Local('value', self.number(64), par(c.ref.count), f'({c.ref.room} .0)')
                 return text, Local('first', ref=c.ref)
             v = c.value
             field, ft = source(v.crate).structs[v.struct][m]
@@ -65,7 +67,7 @@ class Steps:
         return f'forget ! {at} refl $ '
 
     def canon(self, st):
-        return st.front(*[x for p in self.f.refs for x in (('own', p.name), ('tok', p.name))])
+        return st.front(*[x for p in st.refs for x in (('own', p.name), ('tok', p.name))])
 
     def run(self, stmts, i, st, after):
         """The script for the statements from i on. `after` says what follows the last: how the turn or the arm goes on."""
@@ -92,7 +94,9 @@ class Steps:
             k = int(target[1])
             if rv[0] == 'rvOpd' and rv[1][0] == 'copy' and items(rv[1][1][2]) and items(rv[1][1][2])[0][0] == 'deref':
                 return self.loads(s, st, step, on)
-            text, what, more = self.right(rv, st)
+            if rv[0] == 'repeat':
+                return self.makes(s, st, step, on)
+            text, what, more = self.right(rv, st, k)
             return f'{step} ! ({text}) {self.write(st, k, what)} ${nl}' + (more(k) if more else '') + on()
         if head == 'call':
             return self.call(s, st, last, on)
@@ -119,13 +123,17 @@ part-{n} {names}=
 ''')
         return dead + f'part-{n} {names}'.strip()
 
-    def right(self, rv, st):
-        """A right side: its text, what it is, and a step that follows the assignment."""
+    def right(self, rv, st, target):
+        """A right side that goes to a local: its text, what it is, and a step that follows the assignment."""
         if rv[0] == 'rvOpd':
             text, what = self.read(st, rv[1])
             return f'of-opd ! ({text})', what, None
+        if rv[0] == 'addrOf' and self.in_element(rv[1]):
+            return self.field(rv[1], st)
         if rv[0] == 'addrOf':
             k = int(rv[1][1])
+            if not items(rv[1][2]):
+                return 'addr ! (from ! (stop !))', Local('first', ref=self.table(st, k)), None
             ref = self.cell(st, k).ref
             if self.cell(st, k).kind == 'place':
                 return f'addr ! (from ! (hop ! (look ! {st.pos(("cell", k))} refl) (stop !)))', self.cell(st, k), None
@@ -137,10 +145,15 @@ part-{n} {names}=
             text = ''.join(f'and-then ! ({t}) (' for t, _ in parts) + 'no-more !' + ')' * len(parts)
             if parts[0][1].kind == 'place':
                 ref, term = parts[0][1].ref, parts[0][1].term
-                if parts[1][1].term != f'((length {ref.name}) - {term})':
+                if parts[1][1].term != f'({par(ref.count)} - {term})':
                     sys.exit(f'walk: a part of a slice that is not its rest: {parts[1][1].term}')
                 return f'agg ! ({text})', Local('rest', None, term, parts[1][1].within, ref), None
-            return f'agg ! ({text})', Local('slice', ref=parts[0][1].ref), None
+            ref, size = parts[0][1].ref, parts[1][1]
+            if size.term != par(ref.count):
+                what = Local('front', None, size.term, self.page.take('within')[0], ref)
+                what.fits = size.proof
+                return f'agg ! ({text})', what, None
+            return f'agg ! ({text})', Local('slice', ref=ref), None
         if rv[0] == 'op2':
             op = rv[1] if isinstance(rv[1], str) else rv[1][0]
             (ta, a), (tb, b) = self.read(st, rv[2]), self.read(st, rv[3])
@@ -166,58 +179,26 @@ part-{n} {names}=
                 what.index, what.within, what.size = a, within, b.term
                 # the slice is known where the pointer is made: the proof is of its room
                 ref = self.f.refs[0]
-                what.proof = f'(offset-fits (length {ref.name}) {i} {par(within)} (room-{ref.plain} .1))'
+                long = st.lists[ref.name][1]
+                first = par(within) if long == 'refl' else f'(subst (λ (m : ℕ). {i} < m) {long} {par(within)})'
+                what.proof = f'(offset-fits {par(ref.count)} {i} {first} ({ref.room} .1))'
+                if target in self.item_offsets():
+                    what.proof = f'(omega (arith, {within}))'
                 return f'bin ! ({ta}) ({tb}) (record {{ fits = {what.proof} }})', what, None
             if op == 'offset' and a.ref.value.name == 'u8':
                 return f'bin ! ({ta}) ({tb}) tt', Local('place', None, b.term, '', a.ref), None
+            if op == 'offset' and rv[3][0] == 'int':
+                sys.exit('walk: an element or an item at a number that is written out: take the index as a parameter')
             if op == 'offset':
-                what = Local('element', None, b.index.term, b.size, a.ref)
-                what.within = b.within
-                ref = a.ref
+                what = Local('item' if a.kind == 'field' else 'element', None, b.index.term, b.size, a.ref)
+                what.within, what.field = b.within, a
+                start = f'({a.offset()})' if a.kind == 'field' else a.ref.offset
 
                 def place(k):
                     n = st.pos(('cell', k))
-                    return f'rewrite ! {n} (λ (p : ℕ). ‵ (fat fullShare tyPtr l{k} 0 (vptr b-{ref.plain} p))) (sym (place-is {b.size} o-{ref.plain} {what.term})) refl $\n        '
+                    return f'rewrite ! {n} (λ (p : ℕ). ‵ (fat fullShare tyPtr l{k} 0 (vptr {a.ref.block} p))) (sym (place-is {b.size} {start} {what.term})) refl $\n        '
                 return f'bin ! ({ta}) ({tb}) tt', what, place
         sys.exit(f'walk: a right side that is not covered: {rv}')
-
-    def element(self, st, k):
-        c = self.cell(st, k)
-        ref = c.ref
-        if c.kind != 'element':
-            sys.exit('walk: a byte of a slice: read and write it in a covered function')
-        term, long = st.lists[ref.name]
-        v = ref.value
-        return c, ref, term, f'{par(v.row)} {v.struct}-laws.lowered (named {self.f.lifetime(ref)}) κ-{ref.plain} q-{ref.plain} γ-{ref.plain} b-{ref.plain} o-{ref.plain} (length {ref.name}) {term} {long} room-{ref.plain} {c.term} blank {par(c.within)}', v
-
-    def loads(self, s, st, step, on):
-        k, j = int(s[1][1]), int(s[2][1][1][1])
-        c, ref, term, args, v = self.element(st, j)
-        if ref.mut:
-            sys.exit('walk: an element of a `&mut` slice is read: load it through a `&`')
-        n = self.fresh()
-        text = st.front(('own', ref.name), ('tok', ref.name))
-        st.labels[:2] = ['e', 'eo', 'others', 'obor', 'frac', 'name']
-        got = Local('value', v, f'(getD {term} {c.term} blank)', f'is-{n}')
-        text += f'look-at ! tt {args} {v.tells} (LL.copy {v.struct}-row.the-type {v.struct}-laws.the-copy 𝓤 H A W) (λ u{n} is-{n}.\n        '
-        at = st.pos(('cell', j))
-        text += f'{step} ! (of-opd ! (load ! (from ! (hop ! (look ! {at} refl) (stop !))) (look-raw ! 0 refl))) {self.write(st, k, got)} $\n        '
-        st.labels[:6] = [('own', ref.name), ('tok', ref.name)]
-        return text + f'look-away ! tt {args} u{n} (' + self.canon(st) + on() + '))'
-
-    def stores(self, s, st, step, on):
-        j = int(s[1][1])
-        c, ref, term, args, v = self.element(st, j)
-        n = self.fresh()
-        text = st.front(('own', ref.name), ('tok', ref.name))
-        st.labels[:2] = ['e', 'others', 'obor', 'obs', 'auth']
-        text += f'open-at ! tt {args} {v.tells} (λ is-{n}.\n        '
-        to, what = self.read(st, s[2][1])
-        at = st.pos(('cell', j))
-        text += f'{step} ! (of-opd ! ({to})) (from ! (hop ! (look ! {at} refl) (stop !))) (store-raw ! 0 refl {what.typed()}) $\n        '
-        st.labels[:5] = [('own', ref.name), ('tok', ref.name)]
-        st.lists[ref.name] = (f'(set {term} {c.term} {what.term})', f'(length-set {term} {c.term} {what.term} ∙ {st.lists[ref.name][1]})')
-        return text + f'put-at ! tt {args} {v.makes} {what.term} {what.proof} (' + self.canon(st) + on() + '))'
 
     def branch(self, stmts, i, st, after):
         s = stmts[i]
@@ -271,10 +252,11 @@ part-{n} {names}=
     def leaves(self, st):
         proof, _, _ = self.page.take('return')
         c = self.cell(st, 0)
-        text = f'returns-within ! Ends refl (look ! {st.pos(("cell", 0))} refl) $ '
+        text, close = self.close_tables(st)
+        text += f'returns-within ! Ends refl (look ! {st.pos(("cell", 0))} refl) $ '
         text += st.front(*[x for k in range(len(self.locals)) for x in (('cell', k), ('dies', k))])
         text += ''.join('free1 ! $ ' if st.cells[k] is None else 'gone1 ! $ ' for k in range(len(self.locals))) + 'free0 ! $ '
         unit = self.f.result.name == '()'
         args = ([] if unit else [par(c.term)]) + [st.lists[p.name][0] for p in self.f.refs if p.mut]
         args += ([] if unit or self.f.result.name == 'bool' else [par(c.proof)]) + [st.lists[p.name][1] for p in self.f.refs if p.mut]
-        return text + f'by ! (exits {" ".join(args + [par(proof)])})'
+        return text + f'by ! (exits {" ".join(args + [par(proof)])})' + close

@@ -13,8 +13,7 @@ class Terms:
         return ' '.join(f'l{k}' for k in range(len(self.locals)))
 
     def struct(self, name):
-        owner, struct = name.split('::')
-        v = Value(self.crate, struct if owner == self.crate else name)
+        v = Value(self.crate, name)
         self.values.append(v)
         return v
 
@@ -32,8 +31,8 @@ class Terms:
         if t[0] == 'tyRef':
             life = 'erased' if t[1] == 'erased' else f'(named {t[1][1]})'
             return f'tyRef {life} {t[2]} {par(self.ty(t[3], True))}'
-        if t[0] == 'tyArray' and t[1][0] == 'tyInt':
-            return f'tyArray ({self.ty(t[1])}) {t[2][1]}'
+        if t[0] == 'tyArray' and t[1][0] in ('tyInt', 'tyNamed'):
+            return f'tyArray ({self.ty(t[1], behind)}) {t[2][1]}'
         if t[0] == 'tyStruct' and t[1] == '&[]':
             return f'sliceTy ({self.ty(t[2][1])})'
         sys.exit(f'walk: a local of a type that is not covered: {t}')
@@ -54,22 +53,25 @@ class Terms:
 
     def slice(self, p):
         """The arguments of the steps of Lent for a slice at its present list."""
-        return f'{par(p.value.row)} (named {self.f.lifetime(p)}) κ-{p.plain} q-{p.plain} γ-{p.plain} b-{p.plain} o-{p.plain} (length {p.name})'
+        return f'{par(p.value.row)} (named {self.f.lifetime(p)}) {p.kappa} {p.share} {p.ghost} {p.block} {p.offset} {par(p.count)}'
 
     def rest(self, st, what):
-        """The arguments of the steps of Rest for the rest of a slice from a place on."""
+        """The arguments of the steps of Rest and of Front for a part of a slice."""
         p = what.ref
         term, long = st.lists[p.name]
-        return f'κ-{p.plain} q-{p.plain} γ-{p.plain} b-{p.plain} o-{p.plain} (length {p.name}) {what.term} {term} {long} ({what.proof}) ! tt (named {self.f.lifetime(p)})'
+        row = f'{par(p.value.row)} ' if what.kind == 'front' else ''
+        return f'{row}{p.kappa} {p.share} {p.ghost} {p.block} {p.offset} {par(p.count)} {what.term} {term} {long} ({what.proof}) ! tt (named {self.f.lifetime(p)})'
 
     def own(self, p, term):
-        return f'‵ ({slice_row(p, self.f.lifetime(p), "κ-" + p.plain)} .own (lentAt b-{p.plain} o-{p.plain} γ-{p.plain} {term}) (s-{p.plain} ∷ []))'
+        return f'‵ ({slice_row(p, self.f.lifetime(p), p.kappa)} .own (lentAt {p.block} {p.offset} {p.ghost} {term}) ({p.val} ∷ []))'
 
     def entry(self, st, x):
         kind, k = x
-        if kind in ('own', 'tok'):
-            p = [p for p in self.f.refs if p.name == k][0]
-            return self.own(p, st.lists[k][0]) if kind == 'own' else f'‵ (flft κ-{p.plain} q-{p.plain})'
+        if kind in ('own', 'tok', 'table'):
+            p = [p for p in st.refs if p.name == k][0]
+            if kind == 'table':
+                return f'‵ (LentTable {par(p.value.row)} {p.count} {p.block} ν-{p.name} {p.ghost})'
+            return self.own(p, st.lists[k][0]) if kind == 'own' else f'‵ (flft {p.kappa} {p.share})'
         t = self.ty(self.locals[k])
         if kind == 'dies':
             return f'‵ (fdies {par(t)} l{k})'
@@ -115,7 +117,9 @@ class Terms:
     def operand(self, o):
         if isinstance(o, str):
             return 'opd' + o.capitalize() + '·'
-        return f'copy· ({self.spot(o[1])})' if o[0] == 'copy' else f'int· w{o[1]} {o[2]}'
+        if o[0] == 'copy':
+            return f'copy· ({self.spot(o[1])})'
+        return f'{"intBig" if int(o[2]) > 1023 else "int"}· w{o[1]} {o[2]}'
 
     def value(self, rv):
         if rv[0] == 'rvOpd':

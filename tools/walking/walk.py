@@ -5,18 +5,20 @@ from pathlib import Path
 
 from walking.calling import Calling
 from walking.code import code_of, items, statements
-from walking.contracts import Signature
+from walking.contracts import Signature, source
+from walking.elements import Elements
 from walking.looping import Looping
-from walking.names import library
+from walking.names import home_of, library
 from walking.page import Page
 from walking.state import Local, State
 from walking.step import call_step
 from walking.steps import Steps
+from walking.tables import Tables
 from walking.terms import Terms
 from walking.text import PREAMBLE, Stack, chain, clause_uses, imports, indent, listed, merged, par, path, slice_row
 
 
-class Walk(Steps, Calling, Looping, Terms):
+class Walk(Steps, Elements, Tables, Calling, Looping, Terms):
     """One function: its code, its page, and the texts that the walk makes."""
 
     def __init__(self, crate, name):
@@ -30,7 +32,7 @@ class Walk(Steps, Calling, Looping, Terms):
         self.body = statements(item[5])
         self.page = Page(Path('crates', crate, 'walks', name.replace('::', '/') + '.walk'))
         self.callees, self.values, self.count = {}, [p.value for p in self.f.params] + [self.f.result], 0
-        self.lemmas, self.heads, self.has_loop, self.bound_names = [], [], False, set()
+        self.lemmas, self.heads, self.rooms, self.has_loop, self.bound_names = [], [], [], False, set()
 
     def fresh(self):
         self.count += 1
@@ -153,7 +155,7 @@ class Walk(Steps, Calling, Looping, Terms):
         triples = ''.join(f'Triple 𝓤 (𝓣 .C {g.key()}) ({g.antt()}-contract 𝓤 H A mem run) → ' for g in self.callees.values())
         cites = ''.join(f'\n    (cited 𝓤 H ({g.antt()}-contract 𝓤 H (𝓖 .A) (𝓜 .mem) (𝓡 .run)) 𝓜 𝓡 this-code.env {g.key()} {g.antt()}-def.routine this-code.calls-{g.key()[1:]} ({g.antt()}-thm.met 𝓤 H 𝓜 𝓖 𝓡))' for g in self.callees.values())
         body = f'''
-{type_names}abbrev stayed : Stays (this.ended .signature .params) (this.ended .kept)
+{type_names}{"".join(self.rooms)}abbrev stayed : Stays (this.ended .signature .params) (this.ended .kept)
 stayed = {chain(stays)}
 
 module _ {PREAMBLE} {" ".join(tele)} where
@@ -213,8 +215,8 @@ unfolding this-code.routine tablesOf
         for u in self.page.uses:
             m = re.match(r'use ([^{]+)\.\{(.*)\}$', u)
             more.append({m.group(1): set(x.strip() for x in m.group(2).split(','))})
-        more += [clause_uses(f, self.crate)] + [v.uses(self.crate) for v in self.values]
-        more.append({f'Rattle.{self.crate}.proofs.Records': {'offset-fits'}})
+        more += [{'lib.ListN': {'replicate'}}, clause_uses(f, self.crate)] + [v.uses(self.crate) for v in self.values]
+        more.append({f'{home_of(self.crate)}.Records': {'offset-fits'}})
         file = self.name.replace('::', '/')
         text = f'-- `{self.crate}::{self.name}` meets its contract: a walk of its code, written by tools/walk from walks/{file}.walk.\n-- Assumes nothing.\n'
         target = Path('crates', self.crate, 'proofs', file, 'Proof.antt')
@@ -222,7 +224,8 @@ unfolding this-code.routine tablesOf
         target.write_text(text + imports(body, self.crate, merged(*more)) + '\n' + body)
         for g in [*self.callees.values(), f]:
             name = g.step(self.crate)[1]
-            if not name:
+            # of a function that only its own crate can call, the caller's walk writes the step
+            if not name or g is f and f.name not in source(self.crate).public and not Path('crates', self.crate, 'proofs', name + '.antt').exists():
                 continue
             Path('crates', self.crate, 'proofs', name + '.antt').write_text(call_step(g, self.crate))
             lib = Path('crates', self.crate, 'proofs', 'Lib.antt')

@@ -4,19 +4,21 @@ use mathlib.Core.Path.{_≡_}
 use mathlib.Core.Bool.{true}
 use mathlib.Core.List.{List, _∷_, _++_}
 use Prim.Native.Nat.{ℕ, _*_, _≤_}
-use lib.ListN.{length, take}
+use lib.ListN.{take}
 use lib.Dec.{T}
 use Rattle.model.specs.Contract.{Contract, has}
 use Rattle.model.specs.Sheet.{Sheet, good, readSheet, contractIn}
 use Rattle.model.specs.Plan.{held, rowsIn, stepRow, stepOf}
-use Rattle.model.specs.Connect.{outcomeOf}
+use Rattle.model.specs.Connect.{connectOf}
 use Rattle.model.specs.Client.{compliesOf}
 use Rattle.model.specs.Run.{begin, Attempt, rowAtRun, runFrom, streakFrom, Standstill}
 use Rattle.plan.specs.Step.{steppedOf}
 use Rattle.plan.specs.declared.Stepped.{Stepped}
 use Rattle.comply.specs.Answer.{complianceOf}
 use Rattle.comply.specs.declared.Compliance.{Compliance}
-use Rattle.connect.specs.Answers.{Writes}
+use Rattle.situations.specs.declared.Record.{Record}
+use Rattle.situations.specs.Records.{blank}
+use Rattle.connect.specs.Answers.{answerOf}
 use Rattle.connect.specs.declared.Answer.{Answer}
 
 -- what holds of a plan's bytes, for a list of attempts with a client
@@ -34,6 +36,6 @@ pub record RunsByAnswers (k : ℕ) (client old : List ℕ) (user new : Contract)
 -- hang.
 abbrev pub EntryDemand-3 : Type 0
 EntryDemand-3 =
-    (k : ℕ) (old new : List ℕ) (records : ℕ) (answer : Answer) (plan plan′ : List ℕ) (client : List ℕ) (user : Sheet) (attempts : List Attempt)
-    → Writes (outcomeOf records (length plan) k old new) answer plan plan′ → answer .number ≡ 0 → readSheet client ≡ good user
+    (k : ℕ) (old new : List ℕ) (answer : Answer) (work work′ : List Record) (plan plan′ : List ℕ) (client : List ℕ) (user : Sheet) (attempts : List Attempt)
+    → record { answer = answerOf answer; plan = plan′; work = work′ } ≡ connectOf blank k old new work plan → answer .number ≡ 0 → readSheet client ≡ good user
     → RunsByAnswers k client old (user .contract) (contractIn new) (take (answer .length) plan′) attempts

@@ -1,4 +1,4 @@
--- Connecting two checked sheets: a search that is over the limit is refusal 11; else the lists hold all that is reached, and what
+-- Connecting two checked sheets: a search that is over the limit is refusal 11; else the records hold all that is reached, and what
 -- follows over them is what follows over the situations.
 -- Assumes nothing.
 use mathlib.Core.Path.{_≡_, refl, sym, ap, subst, subst⁻¹, _∙_}
@@ -23,33 +23,17 @@ use Rattle.plan.proofs.Front.{front-none}
 use Rattle.table.specs.Keys.{KeysWithin}
 use Rattle.table.specs.Links.{LinksWithin}
 use Rattle.table.proofs.Keys.{Fits}
-use Rattle.reached.specs.Reached.{reachBy, reachOf, Explored}
-use Rattle.reached.specs.declared.Reach.{Reach}
-use Rattle.reached.specs.declared.Reach.the-variants as R
-use Rattle.rounds.specs.Settled.{WorkTable, ListsRoom}
-use Rattle.numbering.specs.Numbered.{Room}
-use Rattle.connect.specs.Answers.{answerOf, Writes}
+use Rattle.situations.specs.declared.Record.{Record}
+use Rattle.table.specs.Masks.{Filled}
+use Rattle.situations.specs.Lists.{keysOf, linksOf, presentOf}
+use Rattle.situations.specs.Fresh.{Fresh}
+use Rattle.situations.proofs.Lists.{keys-length, links-length}
+use Rattle.reached.specs.Reached.{countBy, ExploredWork}
+use Rattle.rounds.specs.Settled.{WorkTable}
+use Rattle.connect.specs.Answers.{answerOf, refusing, Writes}
 use Rattle.connect.specs.Related.{relatedIn}
 use Rattle.connect.specs.declared.Answer.{Answer}
-use Rattle.connect.proofs.Room.{LimitRoom}
 use Rattle.connect.proofs.Table.{Held, related-table}
-
--- ---- what the search answers
-
-reach-over : (l : List Situation) (n : ℕ) (r : Reach) → r ≡ reachBy l n → r ≡ R.Over → l ≢ []
-unfolding reachBy
-reach-over [] n r e o = λ z. (let n : _≡_ {A = ℕ} 0 1 = cc in omega arith)
-reach-over (s ∷ l) n r e o = λ z. List·Memᴰ·not-nil (subst (λ (x : List Situation). List·Memᴰ s x) z (List·Memᴰ·head refl))
-
-reach-none : (l : List Situation) (n count : ℕ) (r : Reach) → r ≡ reachBy l n → r ≡ R.Whole count → l ≡ []
-unfolding reachBy
-reach-none [] n count r e o = refl
-reach-none (s ∷ l) n count r e o = let n : _≡_ {A = ℕ} 0 1 = cc in absurd (omega arith)
-
-reach-count : (l : List Situation) (n count : ℕ) (r : Reach) → r ≡ reachBy l n → r ≡ R.Whole count → n ≡ count
-unfolding reachBy
-reach-count [] n count r e o = cc
-reach-count (s ∷ l) n count r e o = let n : _≡_ {A = ℕ} 0 1 = cc in absurd (omega arith)
 
 -- ---- reached situations fit their keys
 
@@ -77,10 +61,27 @@ module _ (k : ℕ) (σ τ : Contract) (σ-formed : WellFormed σ) (τ-formed : W
         old-state = omega (arith, reached-within r .0, σ-formed .few-states);
       }
 
+-- ---- the limit
+
+pub limit-few : (limit records : ℕ) → limit ≡ limitOf records → (limit ≤ 4096) × (limit ≤ records)
+unfolding limitOf
+limit-few limit records e = (omega arith, omega arith)
+
 -- ---- the outcome
 
-module _ (k : ℕ) (old new : List ℕ) (limit : ℕ) (answer : Reach) (keys₀ links₀ keys links : List ℕ)
-    (explored : Explored k (contractIn old) (contractIn new) limit answer keys₀ links₀ keys links) where
+-- 0 if something was left to do
+count-none : (todo : List Situation) (n : ℕ) → countBy todo n ≡ 0 → 0 < n → todo ≢ []
+unfolding countBy
+count-none [] n e h = λ _. omega arith
+count-none (s ∷ todo) n e h = λ z. List·Memᴰ·not-nil (subst (λ (l : List Situation). List·Memᴰ s l) z (List·Memᴰ·head refl))
+
+count-some : (todo : List Situation) (n : ℕ) → (countBy todo n ≡ 0 → ⊥) → (todo ≡ []) × (countBy todo n ≡ n)
+unfolding countBy
+count-some [] n h = (refl, refl)
+count-some (s ∷ todo) n h = absurd (h refl)
+
+module _ (k : ℕ) (old new : List ℕ) (limit count : ℕ) (ys ys′ : List Record)
+    (explored : ExploredWork k (contractIn old) (contractIn new) limit count ys ys′) where
   abbrev σ : Contract
   σ = contractIn old
 
@@ -90,38 +91,38 @@ module _ (k : ℕ) (old new : List ℕ) (limit : ℕ) (answer : Reach) (keys₀ 
   abbrev search : Search Situation
   search = searchFrom same codes (next (alike k) σ τ) limit start
 
-  is-reach : answer ≡ reachBy (search .todo) (length (search .done))
-  unfolding reachOf
-  is-reach = explored .answer
+  -- the start is among what was found, if nothing is left
+  some-found : search .todo ≡ [] → 0 < length (search .done)
+  some-found whole = go (search .done) (search-all same is-same codes (next (alike k) σ τ) start limit whole start (at-start refl))
+    where
+      go : (l : List Situation) → List·Memᴰ start l → 0 < length l
+      go [] m = absurd (List·Memᴰ·not-nil m)
+      go (s ∷ l) m = omega arith
 
   -- 11
-  pub writes-over : answer ≡ R.Over → (records : ℕ) → limit ≡ limitOf records → (r : Answer) (plan : List ℕ)
-      → answerOf r ≡ refused (record { number = 11; sheet = 0; state = 0; offset = 0 }) .answer
-      → Writes (connected k σ τ (limitOf records) (length plan)) r plan plan
-  unfolding connected found refused plain
-  writes-over o records l r plan a =
+  pub writes-over : count ≡ 0 → limit ≡ limitOf (length ys) → (r : Answer) (plan : List ℕ)
+      → answerOf r ≡ refusing 11 0 0
+      → Writes (connected k σ τ (limitOf (length ys)) (length plan)) r plan plan
+  unfolding connected found refused plain refusing
+  writes-over none l r plan a =
       subst (λ (limit : ℕ). Writes (connected k σ τ limit (length plan)) r plan plan) l (go (search .todo) refl)
     where
       go : (t : List Situation) → search .todo ≡ t → Writes (connected k σ τ limit (length plan)) r plan plan
-      go [] e = absurd (reach-over (search .todo) (length (search .done)) answer is-reach o e)
+      go [] e = absurd (count-none (search .todo) (length (search .done)) (sym (explored .answer) ∙ none) (some-found e) e)
       go (s ∷ t) e =
           subst⁻¹ (λ (o : Outcome). Writes o r plan plan) (ap (found k σ τ (length plan) (search .done)) e) (record { answer = a; written = sym (front-none plan) })
 
-  module _ (old-sheet : IsSheet old) (new-sheet : IsSheet new) (rank : k ≤ 3) (count : ℕ) (o : answer ≡ R.Whole count) where
+  module _ (old-sheet : IsSheet old) (new-sheet : IsSheet new) (rank : k ≤ 3) (some : count ≡ 0 → ⊥) where
+    counted-some : (search .todo ≡ []) × (countBy (search .todo) (length (search .done)) ≡ length (search .done))
+    counted-some = count-some (search .todo) (length (search .done)) (λ e. some (explored .answer ∙ e))
+
     whole : search .todo ≡ []
-    whole = reach-none (search .todo) (length (search .done)) count answer is-reach o
+    whole = counted-some .0
 
     counted-all : length (search .done) ≡ count
-    counted-all = reach-count (search .todo) (length (search .done)) count answer is-reach o
+    counted-all = sym (explored .answer ∙ counted-some .1)
 
-    some-reached : 0 < count
-    some-reached = go (search .done) (search-all same is-same codes (next (alike k) σ τ) start limit whole start (at-start refl)) counted-all
-      where
-        go : (l : List Situation) → List·Memᴰ start l → length l ≡ count → 0 < count
-        go [] m e = absurd (List·Memᴰ·not-nil m)
-        go (s ∷ l) m e = omega arith
-
-    held : Held k σ τ limit keys links
+    held : Held k σ τ limit (keysOf ys′) (linksOf ys′)
     held =
         record {
           whole = whole;
@@ -130,40 +131,39 @@ module _ (k : ℕ) (old new : List ℕ) (limit : ℕ) (answer : Reach) (keys₀ 
           links-hold = explored .links whole;
         }
 
-    -- what the rounds and the numbering ask of the lists
-    pub work-table : (marks₀ order₀ : List ℕ) (marks : ℕ) (order numbers present last before : List ℕ)
-        → LimitRoom limit keys₀ links₀ marks₀ order₀ numbers present last before → marks ≡ length marks₀ → length order ≡ length order₀
-        → WorkTable old new keys links marks count × (0 < count) × Room count order numbers × ListsRoom count order present last before
-    work-table marks₀ order₀ marks order numbers present last before room same-marks same-order =
-        let few : count ≤ limit = omega (arith, counted-all, search-few same codes (next (alike k) σ τ) limit start) in (
-          record {
-            old-sheet = old-sheet;
-            new-sheet = new-sheet;
-            few = omega (arith, room .few);
-            keys-room = omega (arith, room .keys-room, explored .keys-length);
-            links-room = omega (arith, room .links-room, explored .links-length);
-            marks-room = omega (arith, room .marks-room);
-            links-within = subst (λ (n : ℕ). LinksWithin n links) counted-all (explored .links-within whole);
-            keys-within = subst (λ (n : ℕ). KeysWithin σ τ n keys) counted-all (explored .keys-within whole);
-          },
-          some-reached,
-          record { order-room = omega (arith, room .order-room); numbers-room = omega (arith, room .numbers-room) },
-          record {
-            queue-room = omega (arith, room .order-room);
-            present-room = omega (arith, room .present-room);
-            last-room = omega (arith, room .last-room);
-            before-room = omega (arith, room .before-room);
-          },
-        )
+    module _ (limit-is : limit ≡ limitOf (length ys)) (total : ℕ) (total-is : total ≡ count) where
+      is-total : length (search .done) ≡ total
+      is-total = counted-all ∙ sym total-is
 
-    -- what follows
-    pub writes-whole : (records : ℕ) → limit ≡ limitOf records → (r : Answer) (plan plan′ : List ℕ)
-        → Writes (relatedIn k σ τ keys links count (length plan)) r plan plan′
-        → Writes (connected k σ τ (limitOf records) (length plan)) r plan plan′
-    unfolding connected found
-    writes-whole records l r plan plan′ w =
-        let over-found : relatedIn k σ τ keys links count (length plan) ≡ related k σ τ (length plan) (search .done) =
-        ap (λ (n : ℕ). relatedIn k σ τ keys links n (length plan)) (sym counted-all) ∙ related-table k σ τ limit keys links held (length plan) in
-        subst (λ (limit : ℕ). Writes (connected k σ τ limit (length plan)) r plan plan′) l
-        (subst⁻¹ (λ (o : Outcome). Writes o r plan plan′) (ap (found k σ τ (length plan) (search .done)) whole)
-        (subst (λ (o : Outcome). Writes o r plan plan′) over-found w))
+      -- what the rounds ask of the records
+      pub work-table : WorkTable old new (keysOf ys′) (linksOf ys′) (length ys′) total × (0 < total) × Fresh total ys′ × Filled total (linksOf ys′) (presentOf ys′)
+      work-table =
+          let few : total ≤ limit = omega (arith, is-total, search-few same codes (next (alike k) σ τ) limit start) in
+          let room = limit-few limit (length ys) limit-is in
+          let there : total ≤ length ys′ = omega (arith, room .1, explored .size) in (
+            record {
+              old-sheet = old-sheet;
+              new-sheet = new-sheet;
+              few = omega (arith, room .0);
+              keys-room = omega (arith, keys-length ys′);
+              links-room = omega (arith, links-length ys′);
+              marks-room = there;
+              links-within = subst (λ (n : ℕ). LinksWithin n (linksOf ys′)) is-total (explored .links-within whole);
+              keys-within = subst (λ (n : ℕ). KeysWithin σ τ n (keysOf ys′)) is-total (explored .keys-within whole);
+            },
+            omega (arith, is-total, some-found whole),
+            subst (λ (n : ℕ). Fresh n ys′) is-total (explored .fresh whole),
+            subst (λ (n : ℕ). Filled n (linksOf ys′) (presentOf ys′)) is-total (explored .masks whole),
+          )
+
+      -- what follows
+      pub writes-whole : (r : Answer) (plan plan′ : List ℕ) → Writes (relatedIn k σ τ (keysOf ys′) (linksOf ys′) total (length plan)) r plan plan′
+          → Writes (connected k σ τ (limitOf (length ys)) (length plan)) r plan plan′
+      unfolding connected found
+      writes-whole r plan plan′ w =
+          let over-found : relatedIn k σ τ (keysOf ys′) (linksOf ys′) total (length plan) ≡ related k σ τ (length plan) (search .done) =
+          ap (λ (n : ℕ). relatedIn k σ τ (keysOf ys′) (linksOf ys′) n (length plan)) (sym is-total)
+          ∙ related-table k σ τ limit (keysOf ys′) (linksOf ys′) held (length plan) in
+          subst (λ (limit : ℕ). Writes (connected k σ τ limit (length plan)) r plan plan′) limit-is
+          (subst⁻¹ (λ (o : Outcome). Writes o r plan plan′) (ap (found k σ τ (length plan) (search .done)) whole)
+          (subst (λ (o : Outcome). Writes o r plan plan′) over-found w))

@@ -1,5 +1,16 @@
-pub mod Room
 pub mod Table
+pub mod Emitting
 pub mod Relating
 pub mod Connecting
 pub mod Outcomes
+pub mod WithCountsCall
+pub mod EmitCall
+pub mod RelateCall
+pub mod LimitOfCall
+pub mod RefusalCall
+pub mod WideCall
+pub mod ConnectCheckedCall
+pub mod CheckedCall
+pub mod ConnectCall
+pub mod FitsCall
+pub mod SheetNameCountCall

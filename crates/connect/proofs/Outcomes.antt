@@ -1,73 +1,82 @@
--- Connecting any bytes, by cases: refused as a pair, refused for k, or what follows; and what the lists are afterwards.
+-- Connecting any bytes, by cases: refused as a pair, refused for k, or what follows; and what was lent as it is afterwards.
 -- Assumes nothing.
-use mathlib.Core.Path.{_≡_, refl, sym, ap, subst⁻¹, _∙_}
-use mathlib.Core.Bool.{true}
-use mathlib.Core.List.{List, [], _∷_, map}
-use Prim.Native.Nat.{ℕ, _≤_, _<_}
+use mathlib.Core.Path.{_≡_, refl, sym, ap, _∙_}
+use mathlib.Core.Bool.{true, false, cond}
+use mathlib.Core.List.{List, [], _∷_, _++_, map}
+use Prim.Native.Nat.{ℕ, zero, _≤_, _<_}
 use native.Mathlib.Omega.{arith}
-use lib.ListN.{length}
+use lib.ListN.{length, drop}
 use borrow.Author.Tests.{le-leb, lt-leb, ne-eqb, le-ltb}
 use Rattle.model.specs.Contract.{Contract}
 use Rattle.model.specs.Sheet.{readBoth, contractIn, plain}
 use Rattle.model.specs.Connect as model
-use Rattle.model.specs.Connect.{Outcome, refused, counted, connected, limitOf, ranked, outcomeOf, counts}
+use Rattle.model.specs.Connect.{Outcome, refused, counted, connected, limitOf, ranked, outcomeOf, counts, Connected, connectOf}
 use Rattle.model.proofs.Connect.{Shape, cut-off, removed, too-long, fits, shape}
 use Rattle.model.proofs.Refusals.{only-elim, both-numbers}
-use Rattle.plan.proofs.Front.{front-none}
+use Rattle.plan.specs.Front.{front}
 use Rattle.pair.specs.Pairs.{pairOf}
 use Rattle.pair.specs.declared.Pair.{Pair}
 use Rattle.pair.specs.declared.Pair.the-variants as P
-use Rattle.pair.proofs.Pairs.{refused-both, good-both}
-use Rattle.connect.specs.Answers.{answerOf, afterwards, Writes}
+use Rattle.pair.proofs.Pairs.{refused-both, good-both, both-sheets}
+use Rattle.situations.specs.declared.Record.{Record}
+use Rattle.situations.specs.Records.{blank, cleared}
+use Rattle.connect.specs.Answers.{answerOf, refusing, Writes, Checked}
 use Rattle.connect.specs.declared.Answer.{Answer}
-
--- ---- the lists afterwards
-
-unchanged : (number : ℕ) (list : List ℕ) → 1 ≤ number → number ≤ 10 → list ≡ afterwards number list
-unfolding afterwards counts
-unchanged number list l h = rw (ne-eqb number 0 (λ e. omega arith), le-ltb 10 number h) refl
-
-zeros-same : (a b : List ℕ) → length a ≡ length b → map {B = ℕ} (λ (x : ℕ). 0) a ≡ map (λ (x : ℕ). 0) b
-zeros-same [] [] e = refl
-zeros-same [] (y ∷ b) e = absurd (omega arith)
-zeros-same (x ∷ a) [] e = absurd (omega arith)
-zeros-same (x ∷ a) (y ∷ b) e = ap (λ (l : List ℕ). 0 ∷ l) (zeros-same a b (omega arith))
 
 number-is : (r : Answer) (a : model.Answer) → answerOf r ≡ a → r .number ≡ a .number
 unfolding answerOf
 number-is r a e = ap (λ (a : model.Answer). a .number) e
 
--- ---- a refusal of the pair, or of k
+not-counted : (number : ℕ) → 1 ≤ number → number ≤ 10 → counts number ≡ false
+unfolding counts
+not-counted number l h = rw (ne-eqb number 0 (λ e. omega arith), le-ltb 10 number h) refl
 
-module _ (old new : List ℕ) (k records : ℕ) (pair : Pair) (is-pair : pair ≡ pairOf (readBoth 0 0 old new)) (r : Answer) (plan : List ℕ) where
-  module _ (number sheet state offset : ℕ) (is-refused : pair ≡ P.Refused number sheet state offset)
-      (a : answerOf r ≡ refused (record { number = number; sheet = sheet; state = state; offset = 0 }) .answer) where
-    pub pair-writes : Writes (outcomeOf records (length plan) k old new) r plan plan
-    unfolding outcomeOf ranked refused
-    pair-writes =
-        subst⁻¹ (λ (o : Outcome). Writes o r plan plan)
-        (ap (ranked k records (length plan)) (refused-both 0 0 old new number sheet state offset pair is-pair is-refused))
-        (record { answer = a; written = sym (front-none plan) })
+-- ---- a refusal of the pair or of k, or none
 
-    pub pair-unchanged : (list : List ℕ) → list ≡ afterwards (r .number) list
-    unfolding refused
-    pair-unchanged list =
-        let e : r .number ≡ number = number-is r _ a in
-        let n = only-elim _ (readBoth 0 0 old new) _ (both-numbers 0 0 old new) (refused-both 0 0 old new number sheet state offset pair is-pair is-refused) in
-        unchanged (r .number) list (omega (arith, n .0)) (omega (arith, n .1))
+module _ (old new : List ℕ) (k : ℕ) (pair : Pair) (is-pair : pair ≡ pairOf (readBoth 0 0 old new)) (r : Answer) where
+  pub pair-checked : (number sheet state offset : ℕ) → pair ≡ P.Refused number sheet state offset
+      → answerOf r ≡ refusing number sheet state → Checked k old new r
+  unfolding outcomeOf ranked refused refusing
+  pair-checked number sheet state offset is-refused a =
+      let read = refused-both 0 0 old new number sheet state offset pair is-pair is-refused in
+      let e : r .number ≡ number = number-is r _ a in
+      let n = only-elim _ (readBoth 0 0 old new) _ (both-numbers 0 0 old new) read in
+      record {
+        sheets = λ z. absurd (omega (arith, n .0));
+        good = λ z. absurd (omega (arith, n .0));
+        bad = λ _ records room. ap (ranked k records room) read ∙ ap (λ (a : model.Answer). record { answer = a; bytes = [] }) (sym a);
+        uncounted = λ _. not-counted (r .number) (omega (arith, n .0)) (omega (arith, n .1));
+      }
 
-  module _ (is-good : pair ≡ P.Good) (high : 3 < k) (a : answerOf r ≡ refused (record { number = 10; sheet = 0; state = 0; offset = 0 }) .answer) where
-    pub rank-writes : Writes (outcomeOf records (length plan) k old new) r plan plan
-    unfolding outcomeOf ranked refused plain
-    rank-writes =
-        subst⁻¹ (λ (o : Outcome). Writes o r plan plan) (ap (ranked k records (length plan)) (good-both 0 0 old new pair is-pair is-good))
-        (rw (lt-leb k 3 high) (record { answer = a; written = sym (front-none plan) }))
+  module _ (is-good : pair ≡ P.Good) where
+    pub rank-checked : 3 < k → answerOf r ≡ refusing 10 0 0 → Checked k old new r
+    unfolding outcomeOf ranked refused plain refusing
+    rank-checked high a =
+        let e : r .number ≡ 10 = number-is r _ a in
+        record {
+          sheets = λ z. absurd (omega arith);
+          good = λ z. absurd (omega arith);
+          bad =
+              λ _ records room.
+              ap (ranked k records room) (good-both 0 0 old new pair is-pair is-good)
+              ∙ rw (lt-leb k 3 high) (ap (λ (a : model.Answer). record { answer = a; bytes = [] }) (sym a));
+          uncounted = λ _. not-counted (r .number) (omega arith) (omega arith);
+        }
 
-    pub rank-unchanged : (list : List ℕ) → list ≡ afterwards (r .number) list
-    unfolding refused
-    rank-unchanged list = let e : r .number ≡ 10 = number-is r _ a in unchanged (r .number) list (omega arith) (omega arith)
+    pub good-checked : k ≤ 3 → answerOf r ≡ refusing 0 0 0 → Checked k old new r
+    unfolding outcomeOf ranked refused refusing
+    good-checked low a =
+        let e : r .number ≡ 0 = number-is r _ a in
+        let read = good-both 0 0 old new pair is-pair is-good in
+        let sheets = both-sheets 0 0 old new _ read in
+        record {
+          sheets = λ _. (sheets .0, sheets .1, low);
+          good = λ _ records room. ap (ranked k records room) read ∙ rw (le-leb k 3 low) refl;
+          bad = λ n. absurd (n e);
+          uncounted = λ n. absurd (n e);
+        }
 
--- ---- what follows
+-- ---- the whole outcome
 
 connected-counts : (k : ℕ) (σ τ : Contract) (limit room : ℕ) → counts (connected k σ τ limit room .answer .number) ≡ true
 unfolding counts refused counted plain
@@ -79,16 +88,47 @@ connected-counts k σ τ limit room = go (shape k σ τ limit room)
     go (too-long w m l e) = rw e refl
     go (fits w m l e) = rw e refl
 
-module _ (old new : List ℕ) (k records : ℕ) (pair : Pair) (is-pair : pair ≡ pairOf (readBoth 0 0 old new)) (is-good : pair ≡ P.Good) (rank : k ≤ 3)
-    (r : Answer) (plan plan′ : List ℕ) (w : Writes (connected k (contractIn old) (contractIn new) (limitOf records) (length plan)) r plan plan′) where
-  pub good-writes : Writes (outcomeOf records (length plan) k old new) r plan plan′
-  unfolding outcomeOf ranked
-  good-writes =
-      subst⁻¹ (λ (o : Outcome). Writes o r plan plan′) (ap (ranked k records (length plan)) (good-both 0 0 old new pair is-pair is-good)) (rw (le-leb k 3 rank) w)
+cleared-same : (a b : List Record) → length a ≡ length b → cleared a ≡ map (λ r. blank) b
+unfolding cleared
+cleared-same [] [] e = refl
+cleared-same [] (y ∷ b) e = absurd (omega arith)
+cleared-same (x ∷ a) [] e = absurd (omega arith)
+cleared-same (x ∷ a) (y ∷ b) e = ap (λ (l : List Record). blank ∷ l) (cleared-same a b (omega arith))
 
-  pub good-cleared : (list between after : List ℕ) → length between ≡ length list → after ≡ map {B = ℕ} (λ (x : ℕ). 0) between → after ≡ afterwards (r .number) list
-  unfolding afterwards
-  good-cleared list between after l e =
-      let counted : counts (r .number) ≡ true =
-      ap counts (number-is r _ (w .answer)) ∙ connected-counts k (contractIn old) (contractIn new) (limitOf records) (length plan) in
-      rw counted (e ∙ zeros-same between list l)
+module _ (k : ℕ) (old new : List ℕ) (work : List Record) (plan : List ℕ) where
+  -- the whole outcome, by its answer and bytes
+  abbrev whole : Outcome → Connected Record
+  whole o =
+      record {
+        answer = o .answer;
+        plan = o .bytes ++ drop (length (o .bytes)) plan;
+        work = cond (counts (o .answer .number)) (map (λ r. blank) work) work;
+      }
+
+  is-whole : whole (outcomeOf (length work) (length plan) k old new) ≡ connectOf blank k old new work plan
+  unfolding connectOf
+  is-whole = refl
+
+  -- refused before situations are counted: nothing changes
+  pub connect-refused : {r : Answer} → Checked k old new r → (r .number ≡ 0 → ⊥)
+      → record { answer = answerOf r; plan = plan; work = work } ≡ connectOf blank k old new work plan
+  unfolding answerOf
+  connect-refused {r} c n =
+      let kept : work ≡ cond (counts (r .number)) (map (λ r. blank) work) work = rw (c .uncounted n) refl in
+      (λ i. record { answer = answerOf r; plan = plan; work = kept i })
+      ∙ ap whole (sym (c .bad n (length work) (length plan))) ∙ is-whole
+
+  -- or what follows, and all records cleared
+  pub connect-done : {first r : Answer} {plan′ : List ℕ} {work′ : List Record} (between : List Record) → Checked k old new first → first .number ≡ 0
+      → Writes (connected k (contractIn old) (contractIn new) (limitOf (length work)) (length plan)) r plan plan′ → length between ≡ length work
+      → work′ ≡ cleared between
+      → record { answer = answerOf r; plan = plan′; work = work′ } ≡ connectOf blank k old new work plan
+  unfolding front
+  connect-done {first} {r} {plan′} {work′} between c e w long is-cleared =
+      let σ = contractIn old in
+      let τ = contractIn new in
+      let o = connected k σ τ (limitOf (length work)) (length plan) in
+      let zero : work′ ≡ cond (counts (o .answer .number)) (map (λ r. blank) work) work =
+      rw (connected-counts k σ τ (limitOf (length work)) (length plan)) (is-cleared ∙ cleared-same between work long) in
+      (λ i. record { answer = w .answer i; plan = w .written i; work = zero i })
+      ∙ ap whole (sym (c .good e (length work) (length plan))) ∙ is-whole

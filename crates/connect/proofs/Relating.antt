@@ -1,30 +1,37 @@
--- What follows the search, by cases: the start is marked or not, the plan fits or not.
+-- What follows the search, by cases: the start is marked, or the records are fit for numbering.
 -- Assumes nothing.
-use mathlib.Core.Path.{_≡_, refl, sym, ap, subst⁻¹, _∙_}
+use mathlib.Core.Path.{_≡_, refl, sym, ap, subst, subst⁻¹, _∙_}
 use mathlib.Core.Bool.{Bool, true, false, not, cond}
 use mathlib.Core.List.{List, [], _∷_}
 use Prim.Native.Nat.{ℕ, zero, suc, _+_, _*_, _≤_, _<_}
 use native.Mathlib.Omega.{arith}
-use lib.ListN.{length, getD, length-map}
+use lib.ListN.{length, getD}
 use lib.Dec.{eqb}
-use borrow.Author.Tests.{eq-eqb, ne-eqb, le-leb, lt-leb}
+use borrow.Author.Tests.{eq-eqb, ne-eqb}
 use Rattle.model.specs.Lists.{any, keep, upto}
 use Rattle.model.specs.Contract.{Contract}
 use Rattle.model.specs.Situation.{codes}
 use Rattle.model.specs.Search.{member}
 use Rattle.model.specs.Rounds.{Settled, stays}
-use Rattle.model.specs.Plan.{Move, rowOf, planStates, planRows, planBytes}
+use Rattle.model.specs.Plan.{planRows}
 use Rattle.model.specs.Sheet.{contractIn}
 use Rattle.model.specs.Connect.{Outcome, counted, emitted}
-use Rattle.plan.specs.Front.{front}
 use Rattle.table.specs.Links.{linked, nextIn, unmarked, LinksWithin}
 use Rattle.rounds.specs.Masks.{MasksLeft}
+use Rattle.sheet.specs.Whole.{IsSheet}
+use Rattle.situations.specs.declared.Record.{Record}
+use Rattle.situations.specs.Records.{blank}
+use Rattle.situations.specs.Lists.{keysOf, linksOf, marksOf, presentOf}
+use Rattle.situations.specs.Fresh.{Fresh}
+use Rattle.situations.proofs.Lists.{links-length, marks-length, marks-at, numbers-at, present-length}
 use Rattle.rounds.specs.Settled.{settledIn, WorkTable, SettledDone}
-use Rattle.numbering.specs.Kept.{unlessMarked, keptLink, statesIn, rowsIn, WorkLists, Shown}
-use Rattle.plan.proofs.Front.{front-none}
+use Rattle.rounds.specs.Work.{SettledWork}
+use Rattle.numbering.specs.Kept.{unlessMarked, keptLink, rowsIn, WorkLists, Shown}
+use Rattle.numbering.specs.Work.{Unnumbered}
 use Rattle.rounds.proofs.Present.{leads-none, leads-some}
-use Rattle.connect.specs.Answers.{answerOf, Writes}
+use Rattle.connect.specs.Answers.{answerOf, counting, Writes}
 use Rattle.connect.specs.Related.{relatedIn}
+use Rattle.connect.proofs.Emitting.{writes-none}
 use Rattle.connect.specs.declared.Answer.{Answer}
 
 -- ---- the start among the unmarked
@@ -69,73 +76,7 @@ module _ (k : ℕ) (σ τ : Contract) (keys links : List ℕ) (count room rounds
       let kept = sym (done .kept-are) in
       rw (start-stays, eq-eqb (getD marks′ 0 0) 0 e) (λ i. emitted k σ τ room count (r i) (planRows eqb codes (nextIn links) (kept i) 0))
 
--- ---- the plan's size decides
-
-pub rows-count : (links marks : List ℕ) (count : ℕ) → length (rowsIn links marks count) ≡ length (statesIn links marks count)
-unfolding rowsIn statesIn planRows
-rows-count links marks count = length-map (planStates eqb codes (nextIn links) (unmarked marks count) 0) (rowOf eqb codes (nextIn links) (unmarked marks count) 0)
-
--- an answer after situations were counted, with nothing written
-pub writes-none : (number situations states rounds : ℕ) (r : Answer) (plan : List ℕ)
-    → answerOf r ≡ record { number = number; sheet = 0; state = 0; situations = situations; states = states; rounds = rounds; length = 0 }
-    → Writes (counted number situations states rounds []) r plan plan
-unfolding counted
-writes-none number situations states rounds r plan a = record { answer = a; written = sym (front-none plan) }
-
-module _ (k : ℕ) (σ τ : Contract) (n situations states rounds size : ℕ) (rows : List (List Move)) (r : Answer) (plan : List ℕ)
-    (is-n : n ≡ σ .n) (size-is : size ≡ length (planBytes n k rows)) (is-states : states ≡ length rows) where
-  is-size : size ≡ length (planBytes (σ .n) k rows)
-  is-size = size-is ∙ ap (λ (n : ℕ). length (planBytes n k rows)) is-n
-
-  pub emit-short : length plan < size
-      → answerOf r ≡ record { number = 13; sheet = 0; state = 0; situations = situations; states = states; rounds = rounds; length = 0 }
-      → Writes (emitted k σ τ (length plan) situations rounds rows) r plan plan
-  unfolding emitted
-  emit-short h a =
-      rw (lt-leb (length (planBytes (σ .n) k rows)) (length plan) (omega (arith, is-size)))
-      (writes-none 13 situations (length rows) rounds r plan
-      (a ∙ (λ i. record { number = 13; sheet = 0; state = 0; situations = situations; states = is-states i; rounds = rounds; length = 0 })))
-
-  pub emit-fits : (plan′ : List ℕ) → size ≤ length plan
-      → answerOf r ≡ record { number = 0; sheet = 0; state = 0; situations = situations; states = states; rounds = rounds; length = size }
-      → plan′ ≡ front (planBytes n k rows) plan → Writes (emitted k σ τ (length plan) situations rounds rows) r plan plan′
-  unfolding emitted counted
-  emit-fits plan′ h a w =
-      rw (le-leb (length (planBytes (σ .n) k rows)) (length plan) (omega (arith, is-size)))
-      (record {
-        answer = a ∙ (λ i. record { number = 0; sheet = 0; state = 0; situations = situations; states = is-states i; rounds = rounds; length = is-size i });
-        written = w ∙ ap (λ (n : ℕ). front (planBytes n k rows) plan) is-n;
-      })
-
--- ---- what the rounds leave
-
-module _ (k : ℕ) (σ τ : Contract) (keys links : List ℕ) (count rounds : ℕ) (marks marks′ : List ℕ)
-    (done : SettledDone σ τ keys links count rounds marks marks′) (some : 0 < count) (r : Answer) (plan : List ℕ) where
-  pub relate-removed : (getD marks′ 0 0 ≡ 0 → ⊥)
-      → answerOf r ≡ record { number = 12; sheet = 0; state = 0; situations = count; states = 0; rounds = rounds; length = 0 }
-      → Writes (relatedIn k σ τ keys links count (length plan)) r plan plan
-  relate-removed n a =
-      subst⁻¹ (λ (o : Outcome). Writes o r plan plan) (related-removed k σ τ keys links count (length plan) rounds marks marks′ done some n)
-      (writes-none 12 count 0 rounds r plan a)
-
-  pub relate-kept : (plan′ : List ℕ) → getD marks′ 0 0 ≡ 0 → Writes (emitted k σ τ (length plan) count rounds (rowsIn links marks′ count)) r plan plan′
-      → Writes (relatedIn k σ τ keys links count (length plan)) r plan plan′
-  relate-kept plan′ e w =
-      subst⁻¹ (λ (o : Outcome). Writes o r plan plan′) (related-kept k σ τ keys links count (length plan) rounds marks marks′ done some e) w
-
--- ---- the lists are fit for numbering
-
-pub work-lists : (old new keys links marks marks′ : List ℕ) (count rounds : ℕ) → WorkTable old new keys links (length marks) count → 0 < count
-    → SettledDone (contractIn old) (contractIn new) keys links count rounds marks marks′ → getD marks′ 0 0 ≡ 0 → WorkLists count links marks′
-work-lists old new keys links marks marks′ count rounds t some done e =
-    record {
-      some-situation = some;
-      few = t .few;
-      links-room = t .links-room;
-      marks-room = omega (arith, t .marks-room, done .size);
-      links-within = t .links-within;
-      start-kept = e;
-    }
+-- ---- the masks that the rounds leave
 
 -- a link is kept if the situation that it names is unmarked
 kept-shown : (marks : List ℕ) (count link : ℕ) → link ≤ count → stays eqb (unmarked marks count) (linked link) ≡ not (eqb (unlessMarked marks link) 0)
@@ -162,3 +103,61 @@ masks-shown links marks present count within room left =
           ∙ ap (λ (slot : ℕ). stays eqb (unmarked marks count) (linked (getD links slot 0))) e
           ∙ kept-shown marks count (getD links (42 * i + (14 * kind + j)) 0) (within i (14 * kind + j) h (omega arith));
     }
+
+-- ---- the records after the rounds
+
+module _ (k : ℕ) (old new : List ℕ) (count rounds : ℕ) (ys : List Record) {ys′ : List Record}
+    (table : WorkTable old new (keysOf ys) (linksOf ys) (length ys) count) (some : 0 < count) (fresh : Fresh count ys)
+    (settled : SettledWork (contractIn old) (contractIn new) count rounds ys ys′) where
+  pub start-there : 0 < length ys′
+  start-there = omega (arith, table .marks-room, settled .size)
+
+  module _ {y : Record} (y-is : y ≡ getD ys′ 0 blank) where
+    start-mark : getD (marksOf ys′) 0 0 ≡ y .mark
+    start-mark = marks-at ys′ 0 start-there ∙ ap (λ (y : Record). y .mark) (sym y-is)
+
+    -- 12
+    pub relate-removed : (y .mark ≡ 0 → ⊥) → (r : Answer) (plan : List ℕ)
+        → answerOf r ≡ counting 12 count 0 rounds 0
+        → Writes (relatedIn k (contractIn old) (contractIn new) (keysOf ys) (linksOf ys) count (length plan)) r plan plan
+    relate-removed n r plan a =
+        subst⁻¹ (λ (o : Outcome). Writes o r plan plan)
+        (related-removed k (contractIn old) (contractIn new) (keysOf ys) (linksOf ys) count (length plan) rounds (marksOf ys) (marksOf ys′) (settled .done) some (λ e. n (sym start-mark ∙ e)))
+        (writes-none 12 count 0 rounds r plan a)
+
+    module _ (kept : y .mark ≡ 0) where
+      -- what the numbering asks of the records
+      pub emit-needs : IsSheet old × WorkLists count (linksOf ys′) (marksOf ys′) × Shown count (linksOf ys′) (marksOf ys′) (presentOf ys′) × Unnumbered count ys′
+      emit-needs =
+          let room : count ≤ length ys′ = omega (arith, table .marks-room, settled .size) in
+          let within : LinksWithin count (linksOf ys′) = subst⁻¹ (LinksWithin count) (settled .links) (table .links-within) in
+          let left : MasksLeft count (linksOf ys′) (marksOf ys′) (presentOf ys′) =
+          subst⁻¹ (λ (links : List ℕ). MasksLeft count links (marksOf ys′) (presentOf ys′)) (settled .links) (settled .masks) in (
+            table .old-sheet,
+            record {
+              some-situation = some;
+              few = table .few;
+              links-room = omega (arith, links-length ys′);
+              marks-room = omega (arith, marks-length ys′);
+              links-within = within;
+              start-kept = start-mark ∙ kept;
+            },
+            masks-shown (linksOf ys′) (marksOf ys′) (presentOf ys′) count within (omega (arith, present-length ys′)) left,
+            record {
+              room = room;
+              none =
+                  λ i h.
+                  ap (λ (numbers : List ℕ). getD numbers i 0) (settled .numbers)
+                  ∙ numbers-at ys i (omega (arith, fresh .room)) ∙ fresh .unnumbered i h;
+            },
+          )
+
+      -- 13 or acceptance
+      pub relate-kept : (r : Answer) (plan plan′ : List ℕ)
+          → ((τ : Contract) → Writes (emitted k (contractIn old) τ (length plan) count rounds (rowsIn (linksOf ys′) (marksOf ys′) count)) r plan plan′)
+          → Writes (relatedIn k (contractIn old) (contractIn new) (keysOf ys) (linksOf ys) count (length plan)) r plan plan′
+      relate-kept r plan plan′ w =
+          subst⁻¹ (λ (o : Outcome). Writes o r plan plan′)
+          (related-kept k (contractIn old) (contractIn new) (keysOf ys) (linksOf ys) count (length plan) rounds (marksOf ys) (marksOf ys′) (settled .done) some (start-mark ∙ kept))
+          (subst (λ (links : List ℕ). Writes (emitted k (contractIn old) (contractIn new) (length plan) count rounds (rowsIn links (marksOf ys′) count)) r plan plan′)
+          (settled .links) (w (contractIn new)))

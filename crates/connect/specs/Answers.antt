@@ -1,12 +1,13 @@
--- The answer of connecting, and what was lent as it is afterwards, for what the model gives.
+-- The answer of connecting, for what the model gives.
 -- Assumes nothing.
 use mathlib.Core.Path.{_≡_}
-use mathlib.Core.Bool.{cond}
-use mathlib.Core.List.{List, map}
-use Prim.Native.Nat.{ℕ, _/_, min}
-use lib.ListN.{length}
+use mathlib.Core.Bool.{false}
+use mathlib.Core.List.{List, []}
+use Prim.Native.Nat.{ℕ, _≤_}
+use Rattle.model.specs.Sheet.{contractIn}
 use Rattle.model.specs.Connect as model
-use Rattle.model.specs.Connect.{Outcome, counts}
+use Rattle.model.specs.Connect.{Outcome, connected, limitOf, outcomeOf, counts}
+use Rattle.sheet.specs.Whole.{IsSheet}
 use Rattle.plan.specs.Front.{front}
 use Rattle.connect.specs.declared.Answer.{Answer}
 
@@ -23,18 +24,24 @@ answerOf r =
       length = r .length;
     }
 
--- The lent lists make so many records: each has a key, 42 links, a mark, a place in the plan's order, a plan number, 3 masks of
--- present moves, 3 last incoming moves and 42 earlier incoming moves.
-unfoldable pub recordsOf : (keys links marks order numbers present last before : List ℕ) → ℕ
-recordsOf keys links marks order numbers present last before =
-    min (min (min (length keys) (length marks)) (min (length order) (length numbers)))
-    (min (min (length links / 42) (length before / 42)) (min (length present / 3) (length last / 3)))
+-- "Counts (situations, plan states, rounds): 0 0 0 for 1 to 11": the answer of such a refusal
+unfoldable pub refusing : (number sheet state : ℕ) → model.Answer
+refusing number sheet state = record { number = number; sheet = sheet; state = state; situations = 0; states = 0; rounds = 0; length = 0 }
+
+-- an answer given after situations were counted
+unfoldable pub counting : (number situations states rounds length : ℕ) → model.Answer
+counting number situations states rounds length =
+    record { number = number; sheet = 0; state = 0; situations = situations; states = states; rounds = rounds; length = length }
 
 -- an outcome is answered, and its bytes stand in front of the lent plan
 pub record Writes (o : Outcome) (r : Answer) (plan plan′ : List ℕ) : Type 0 where
   pub answer : answerOf r ≡ o .answer
   pub written : plan′ ≡ front (o .bytes) plan
 
--- a lent list afterwards: zero if situations were counted, else as it was
-unfoldable pub afterwards : ℕ → List ℕ → List ℕ
-afterwards number list = cond (counts number) (map (λ x. 0) list) list
+-- What the check of the sheets, of the pair and of k answers: the number 0, and what follows is the outcome; or a refusal, which is the
+-- outcome already and says that no situation was counted.
+pub record Checked (k : ℕ) (old new : List ℕ) (r : Answer) : Type 0 where
+  pub sheets : r .number ≡ 0 → IsSheet old × IsSheet new × (k ≤ 3)
+  pub good : r .number ≡ 0 → (records room : ℕ) → outcomeOf records room k old new ≡ connected k (contractIn old) (contractIn new) (limitOf records) room
+  pub bad : (r .number ≡ 0 → ⊥) → (records room : ℕ) → outcomeOf records room k old new ≡ record { answer = answerOf r; bytes = [] }
+  pub uncounted : (r .number ≡ 0 → ⊥) → counts (r .number) ≡ false

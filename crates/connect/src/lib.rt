@@ -1,23 +1,25 @@
-// Connecting two sheets: the answer, the plan, and the work lists afterwards. Document 01, "Which pairs connect" and "Refusals and
+// Connecting two sheets: the answer, the plan, and the work table afterwards. Document 01, "Which pairs connect" and "Refusals and
 // their order".
-mod lists;
-
 ghost use mathlib.Core.Path.{_≡_};
 ghost use Prim.Native.Nat.{_≤_, _<_};
 ghost use lib.ListN.{length};
+ghost use lib.Dec.{leb};
 ghost use Rattle.model.specs.Contract.{Contract};
 ghost use Rattle.model.specs.Sheet.{contractIn};
-ghost use Rattle.model.specs.Connect.{refused, emitted, connected, limitOf, outcomeOf};
+ghost use Rattle.model.specs.Connect.{emitted, connected, limitOf, connectOf};
 ghost use Rattle.sheet.specs.Whole.{IsSheet};
+ghost use Rattle.table.specs.Masks.{Filled};
+ghost use Rattle.situations.specs.Records.{blank};
+ghost use Rattle.situations.specs.Lists.{keysOf, linksOf, marksOf, presentOf};
+ghost use Rattle.situations.specs.Fresh.{Fresh};
+ghost use Rattle.rounds.specs.Settled.{WorkTable};
 ghost use Rattle.numbering.specs.Kept.{WorkLists, Shown, rowsIn};
-ghost use Rattle.numbering.specs.Numbered.{Room};
-ghost use Rattle.rounds.specs.Settled.{WorkTable, ListsRoom};
-ghost use Rattle.connect.specs.Answers.{answerOf, recordsOf, afterwards, Writes};
+ghost use Rattle.numbering.specs.Work.{Unnumbered};
+ghost use Rattle.connect.specs.Answers.{answerOf, refusing, counting, Writes, Checked};
 ghost use Rattle.connect.specs.Related.{relatedIn};
 use numbering::number;
 use numbering::write;
 use pair::Pair;
-use reached::Reach;
 
 // What connecting answers: number, sheet and state of a refusal; situations, plan states and rounds; the plan's length.
 #[repr(C)]
@@ -33,7 +35,7 @@ pub struct Answer {
 
 // A refusal before situations are counted, or for their number: the counts are 0 0 0.
 fn refusal(number: u8, sheet: u8, state: u8) -> Answer
-    ensures { λ r. ⌜ answerOf r ≡ refused (record { number = number; sheet = sheet; state = state; offset = 0 }) .answer ⌝ }
+    ensures { λ r. ⌜ answerOf r ≡ refusing number sheet state ⌝ }
 {
     Answer {
         number: number,
@@ -47,17 +49,57 @@ fn refusal(number: u8, sheet: u8, state: u8) -> Answer
 }
 
 // An answer with its counts.
-fn with_counts(number: u8, situations: u16, states: u16, rounds: u16, length: u32) -> Answer
-    ensures { λ r. ⌜ answerOf r ≡ record { number = number; sheet = 0; state = 0; situations = situations; states = states; rounds = rounds; length = length } ⌝ }
+fn with_counts(number: u8, situations: usize, states: u16, rounds: u16, length: u32) -> Answer
+    requires { ⌜ situations ≤ 4096 ⌝ }
+    ensures { λ r. ⌜ answerOf r ≡ counting number situations states rounds length ⌝ }
 {
     Answer {
         number: number,
         sheet: 0,
         state: 0,
-        situations: situations,
+        situations: situations as u16,
         states: states,
         rounds: rounds,
         length: length,
+    }
+}
+
+// How many situations can be counted in so many records.
+fn limit_of(records: usize) -> usize
+    ensures { λ r. ⌜ r ≡ limitOf records ⌝ }
+{
+    if records < 4096 {
+        return records;
+    }
+    4096
+}
+
+// A number of situations as a place in the table.
+fn wide(count: u16) -> usize
+    ensures { λ r. ⌜ r ≡ count ⌝ }
+{
+    count as usize
+}
+
+// Whether a plan of this length goes into so much room.
+fn fits(length: u32, room: usize) -> bool
+    ensures { λ r. ⌜ r ≡ leb length room ⌝ }
+{
+    length as usize <= room
+}
+
+// The refusal of the sheets, of the pair or of k, if there is one; else an answer with the number 0.
+fn checked(k: u8, old: &[u8], new: &[u8]) -> Answer
+    ensures { λ r. ⌜ Checked k (now (old .entry)) (now (new .entry)) r ⌝ }
+{
+    match pair::check_pair(0, 0, old, new) {
+        Pair::Refused(number, sheet, state, offset) => refusal(number, sheet, state),
+        Pair::Good => {
+            if 3 < k {
+                return refusal(10, 0, 0);
+            }
+            refusal(0, 0, 0)
+        }
     }
 }
 
@@ -66,85 +108,42 @@ fn with_counts(number: u8, situations: u16, states: u16, rounds: u16, length: u3
 fn emit(
     k: u8,
     old: &[u8],
-    links: &[u16],
-    marks: &[u16],
-    present: &[u16],
-    order: &mut [u16],
-    numbers: &mut [u16],
+    work: &mut [situations::Record],
     plan: &mut [u8],
-    count: u16,
+    count: usize,
     rounds: u16,
 ) -> Answer
-    requires { ⌜ IsSheet (now old) × WorkLists count (now links) (now marks) × Shown count (now links) (now marks) (now present) × Room count (now order) (now numbers) ⌝ }
-    ensures { λ r. ⌜ ((τ : Contract) → Writes (emitted k (contractIn (now (old .entry))) τ (length (now (plan .entry))) count rounds (rowsIn (now (links .entry)) (now (marks .entry)) count)) r (now (plan .entry)) (now (plan .exit))) ⌝ }
+    requires { ⌜ IsSheet (now old) × WorkLists count (linksOf (now work)) (marksOf (now work)) × Shown count (linksOf (now work)) (marksOf (now work)) (presentOf (now work)) × Unnumbered count (now work) ⌝ }
+    ensures { λ r. ⌜ ((τ : Contract) → Writes (emitted k (contractIn (now (old .entry))) τ (length (now (plan .entry))) count rounds (rowsIn (linksOf (now (work .entry))) (marksOf (now (work .entry))) count)) r (now (plan .entry)) (now (plan .exit))) ⌝ }
 {
-    let states = number::number_states(links, marks, present, order, numbers, count as usize);
-    let length = write::plan_length(links, marks, present, order, count as usize, states);
-    if plan.len() < length as usize {
-        return with_counts(13, count, states, rounds, 0);
+    let states = number::number_states(work, count);
+    let length = write::plan_length(work, count, states);
+    if fits(length, plan.len()) {
+        let n = sheet::name_count(old);
+        write::write_plan(work, count, states, n, k, plan);
+        return with_counts(0, count, states, rounds, length);
     }
-    let n = sheet::name_count(old);
-    write::write_plan(
-        links,
-        marks,
-        present,
-        order,
-        numbers,
-        count as usize,
-        states,
-        n,
-        k,
-        plan,
-    );
-    with_counts(0, count, states, rounds, length)
+    with_counts(13, count, states, rounds, 0)
 }
 
-// 12, or what follows: the rounds, for `count` situations with their keys and links.
+// 12, or what follows: the rounds, for `count` situations as the search leaves them.
 fn relate(
     k: u8,
     old: &[u8],
     new: &[u8],
-    keys: &[u64],
-    links: &[u16],
-    marks: &mut [u16],
-    order: &mut [u16],
-    numbers: &mut [u16],
-    present: &mut [u16],
-    last: &mut [u16],
-    before: &mut [u16],
+    work: &mut [situations::Record],
     plan: &mut [u8],
-    count: u16,
+    count: usize,
 ) -> Answer
-    requires { ⌜ WorkTable (now old) (now new) (now keys) (now links) (length (now marks)) count × (0 < count) × Room count (now order) (now numbers) × ListsRoom count (now order) (now present) (now last) (now before) ⌝ }
-    ensures { λ r. ⌜ Writes (relatedIn k (contractIn (now (old .entry))) (contractIn (now (new .entry))) (now (keys .entry)) (now (links .entry)) count (length (now (plan .entry)))) r (now (plan .entry)) (now (plan .exit)) ⌝ }
+    requires { ⌜ WorkTable (now old) (now new) (keysOf (now work)) (linksOf (now work)) (length (now work)) count × (0 < count) × Fresh count (now work) × Filled count (linksOf (now work)) (presentOf (now work)) ⌝ }
+    ensures { λ r. ⌜ Writes (relatedIn k (contractIn (now (old .entry))) (contractIn (now (new .entry))) (keysOf (now (work .entry))) (linksOf (now (work .entry))) count (length (now (plan .entry)))) r (now (plan .entry)) (now (plan .exit)) ⌝ }
 {
-    let rounds = rounds::settle(
-        old,
-        new,
-        keys,
-        links,
-        marks,
-        order,
-        present,
-        last,
-        before,
-        count as usize,
-    );
-    if marks[0] != 0 {
+    let rounds = rounds::settle(old, new, work, count);
+    let begin = situations::load(work, 0);
+    if begin.mark != 0 {
         return with_counts(12, count, 0, rounds, 0);
     }
-    emit(
-        k,
-        old,
-        links,
-        marks,
-        present,
-        order,
-        numbers,
-        plan,
-        count,
-        rounds,
-    )
+    emit(k, old, work, plan, count, rounds)
 }
 
 // 11, or what follows: two service sheets over the same names, and k at most 3.
@@ -152,91 +151,35 @@ fn connect_checked(
     k: u8,
     old: &[u8],
     new: &[u8],
-    keys: &mut [u64],
-    links: &mut [u16],
-    marks: &mut [u16],
-    order: &mut [u16],
-    numbers: &mut [u16],
-    present: &mut [u16],
-    last: &mut [u16],
-    before: &mut [u16],
+    work: &mut [situations::Record],
     plan: &mut [u8],
 ) -> Answer
     requires { ⌜ IsSheet (now old) × IsSheet (now new) × (k ≤ 3) ⌝ }
-    ensures { λ r. ⌜ Writes (connected k (contractIn (now (old .entry))) (contractIn (now (new .entry))) (limitOf (recordsOf (now (keys .entry)) (now (links .entry)) (now (marks .entry)) (now (order .entry)) (now (numbers .entry)) (now (present .entry)) (now (last .entry)) (now (before .entry)))) (length (now (plan .entry)))) r (now (plan .entry)) (now (plan .exit)) ⌝ }
+    ensures { λ r. ⌜ Writes (connected k (contractIn (now (old .entry))) (contractIn (now (new .entry))) (limitOf (length (now (work .entry)))) (length (now (plan .entry)))) r (now (plan .entry)) (now (plan .exit)) ⌝ }
 {
-    let limit = lists::smaller(
-        lists::records(keys, links, marks, order, numbers, present, last, before),
-        4096,
-    );
-    match reached::explore(old, new, k, limit, keys, links, marks, order) {
-        Reach::Over => refusal(11, 0, 0),
-        Reach::Whole(count) => relate(
-            k,
-            old,
-            new,
-            keys,
-            links,
-            marks,
-            order,
-            numbers,
-            present,
-            last,
-            before,
-            plan,
-            count,
-        ),
+    let limit = limit_of(work.len());
+    let count = reached::explore(old, new, k, limit, work);
+    if count == 0 {
+        return refusal(11, 0, 0);
     }
+    relate(k, old, new, work, plan, wide(count))
 }
 
-// Connects the contracts of two sheets with buffers of rank k. The lists are the work table: a record has a key, 42 links, a mark, a
-// place in the plan's order, a plan number, 3 masks of present moves, 3 last incoming moves and 42 earlier incoming moves.
+// Connects the contracts of two sheets with buffers of rank k.
 pub fn connect(
     k: u8,
     old: &[u8],
     new: &[u8],
-    keys: &mut [u64],
-    links: &mut [u16],
-    marks: &mut [u16],
-    order: &mut [u16],
-    numbers: &mut [u16],
-    present: &mut [u16],
-    last: &mut [u16],
-    before: &mut [u16],
+    work: &mut [situations::Record],
     plan: &mut [u8],
 ) -> Answer
-    ensures answered { λ r. ⌜ Writes (outcomeOf (recordsOf (now (keys .entry)) (now (links .entry)) (now (marks .entry)) (now (order .entry)) (now (numbers .entry)) (now (present .entry)) (now (last .entry)) (now (before .entry))) (length (now (plan .entry))) k (now (old .entry)) (now (new .entry))) r (now (plan .entry)) (now (plan .exit)) ⌝ }
-    ensures keys { λ r. ⌜ now (keys .exit) ≡ afterwards (r .number) (now (keys .entry)) ⌝ }
-    ensures links { λ r. ⌜ now (links .exit) ≡ afterwards (r .number) (now (links .entry)) ⌝ }
-    ensures marks { λ r. ⌜ now (marks .exit) ≡ afterwards (r .number) (now (marks .entry)) ⌝ }
-    ensures order { λ r. ⌜ now (order .exit) ≡ afterwards (r .number) (now (order .entry)) ⌝ }
-    ensures numbers { λ r. ⌜ now (numbers .exit) ≡ afterwards (r .number) (now (numbers .entry)) ⌝ }
-    ensures present { λ r. ⌜ now (present .exit) ≡ afterwards (r .number) (now (present .entry)) ⌝ }
-    ensures last { λ r. ⌜ now (last .exit) ≡ afterwards (r .number) (now (last .entry)) ⌝ }
-    ensures before { λ r. ⌜ now (before .exit) ≡ afterwards (r .number) (now (before .entry)) ⌝ }
+    ensures { λ r. ⌜ record { answer = answerOf r; plan = now (plan .exit); work = now (work .exit) } ≡ connectOf blank k (now (old .entry)) (now (new .entry)) (now (work .entry)) (now (plan .entry)) ⌝ }
 {
-    match pair::check_pair(0, 0, old, new) {
-        Pair::Refused(number, sheet, state, offset) => refusal(number, sheet, state),
-        Pair::Good => {
-            if 3 < k {
-                return refusal(10, 0, 0);
-            }
-            let answer = connect_checked(
-                k,
-                old,
-                new,
-                keys,
-                links,
-                marks,
-                order,
-                numbers,
-                present,
-                last,
-                before,
-                plan,
-            );
-            lists::clear_table(keys, links, marks, order, numbers, present, last, before);
-            answer
-        }
+    let first = checked(k, old, new);
+    if first.number != 0 {
+        return first;
     }
+    let answer = connect_checked(k, old, new, work, plan);
+    situations::clear(work);
+    answer
 }

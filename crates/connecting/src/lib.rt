@@ -1,7 +1,10 @@
 // The connecting program: reads k, the first sheet behind its length and the second sheet, and prints the answer, the counts and the plan's
 // moves. Document 01, "Cases".
+ghost use mathlib.Core.Path.{_≡_};
 ghost use Prim.Native.Nat.{_+_, _*_, _≤_};
 ghost use lib.ListN.{length};
+ghost use Rattle.connect.specs.Answers.{answerOf};
+ghost use Rattle.connecting.specs.Own.{ownOf};
 
 fn print_answer(number: u8, sheet: u8, state: u8) {
     io::write_all(1, b"answer ");
@@ -51,31 +54,19 @@ fn print_rows(plan: &[u8], states: u16) {
     }
 }
 
-// Connects two sheets with 1,024 lent records and 32,768 lent plan bytes, and prints the outcome.
+// Connects two sheets with 1,024 lent records.
+fn connect_own(k: u8, old: &[u8], new: &[u8], plan: &mut [u8]) -> connect::Answer
+    ensures { λ r. ⌜ (answerOf r ≡ ownOf k (now (old .entry)) (now (new .entry)) (now (plan .entry)) .answer) × (now (plan .exit) ≡ ownOf k (now (old .entry)) (now (new .entry)) (now (plan .entry)) .plan) ⌝ }
+{
+    let zero = situations::zero_record();
+    let mut work = [zero; 1024];
+    connect::connect(k, old, new, &mut work, plan)
+}
+
+// Connects two sheets with 32,768 lent plan bytes, and prints the outcome.
 fn connect_sheets(k: u8, old: &[u8], new: &[u8]) {
-    let mut keys = [0u64; 1024];
-    let mut links = [0u16; 43008];
-    let mut marks = [0u16; 1024];
-    let mut order = [0u16; 1024];
-    let mut numbers = [0u16; 1024];
-    let mut present = [0u16; 3072];
-    let mut last = [0u16; 3072];
-    let mut before = [0u16; 43008];
     let mut plan = [0u8; 32768];
-    let answer = connect::connect(
-        k,
-        old,
-        new,
-        &mut keys,
-        &mut links,
-        &mut marks,
-        &mut order,
-        &mut numbers,
-        &mut present,
-        &mut last,
-        &mut before,
-        &mut plan,
-    );
+    let answer = connect_own(k, old, new, &mut plan);
     print_answer(answer.number, answer.sheet, answer.state);
     print_counts(answer.situations, answer.states, answer.rounds);
     if answer.number == 0 {

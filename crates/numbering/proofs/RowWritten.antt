@@ -1,6 +1,6 @@
 -- A row is written bit by bit of its masks: each bit's slot writes its move, and all moves together are the row.
 -- Assumes nothing.
-use mathlib.Core.Path.{_≡_, sym, ap, _∙_}
+use mathlib.Core.Path.{_≡_, refl, sym, ap, _∙_}
 use mathlib.Core.Bool.{false}
 use mathlib.Core.List.{List, [], _∷_, _++_, append-assoc, append-nil, List·Memᴰ}
 use Prim.Native.Nat.{ℕ, _+_, _*_, _-_, _≤_, _<_}
@@ -12,28 +12,26 @@ use Rattle.model.specs.Contract.{has}
 use Rattle.model.specs.Plan.{Move, moveBytes, rowBytes}
 use Rattle.model.proofs.PlanBytes.{length-moves}
 use Rattle.table.specs.Links.{codeAt}
+use Rattle.table.specs.Masks.{slotsIn}
 use Rattle.plan.specs.Front.{front}
-use Rattle.plan.proofs.Front.{length-front, front-over}
 use Rattle.plan.proofs.Written.{moves-append}
-use Rattle.numbering.specs.Kept.{keptLink, statesIn, rowIn, slotsIn, WorkLists, Shown}
-use Rattle.numbering.specs.Numbered.{Numbers, moveBy}
+use Rattle.numbering.specs.Kept.{keptLink, statesIn, rowIn, WorkLists, Shown}
+use Rattle.numbering.specs.Numbered.{Numbers}
 use Rattle.table.proofs.Left.{Left, left-end, left-found, found-set, found-among}
 use Rattle.numbering.proofs.Kept.{kept-within, slot-none, slot-linked}
-use Rattle.numbering.proofs.Rows.{rowFrom, row-end, row-few, row-whole, row-none, row-by-numbers, numbered-link, state-below}
+use Rattle.numbering.proofs.Rows.{moveBy, rowFrom, row-end, row-few, row-whole, row-none, row-by-numbers, numbered-link, state-below}
 use Rattle.numbering.proofs.Bytes.{length-row, moves-shown}
-use Rattle.numbering.proofs.Written.{Written, written-over, written-length, written-then, rest-length}
+use Rattle.numbering.proofs.Written.{Written, written-length, written-then, rest-length}
 
 -- ---- a move
 
 length-move : (m : Move) → length (moveBytes (m ∷ [])) ≡ 3
 length-move m = omega (arith, length-moves (m ∷ []))
 
-pub move-written : (numbers : List ℕ) (slot link : ℕ) (xs : List ℕ) {ys : List ℕ} {code : ℕ} → code ≡ codeAt slot
-    → ys ≡ front (moveBytes (record { code = code; to = getD numbers (link - 1) 0 - 1 } ∷ [])) xs
-    → ys ≡ front (moveBytes (moveBy numbers slot link ∷ [])) xs
-unfolding moveBy
-move-written numbers slot link xs c e =
-    e ∙ ap (λ (code : ℕ). front (moveBytes (record { code = code; to = getD numbers (link - 1) 0 - 1 } ∷ [])) xs) c
+-- the code is that of the slot
+pub move-written : (to slot : ℕ) (xs : List ℕ) {ys : List ℕ} {code : ℕ} → code ≡ codeAt slot
+    → ys ≡ front (moveBytes (record { code = code; to = to } ∷ [])) xs → ys ≡ front (moveBytes (record { code = codeAt slot; to = to } ∷ [])) xs
+move-written to slot xs c e = e ∙ ap (λ (code : ℕ). front (moveBytes (record { code = code; to = to } ∷ [])) xs) c
 
 -- ---- a row
 
@@ -48,15 +46,15 @@ pub row-room : (row : List Move) {room : ℕ} → length (rowBytes row) ≤ room
 row-room row h = omega (arith, length-row row)
 
 pub row-begun : {count : ℕ} {links marks present : List ℕ} → WorkLists count links marks → Shown count links marks present → {i : ℕ} → i < count
-    → {slots : ℕ} → slots ≡ slotsIn present i → (xs : List ℕ) {first : List ℕ} → length (rowBytes (rowIn links marks count i)) ≤ length xs
-    → first ≡ front (ones slots ∷ []) xs → RowOnTheWay links marks count i first first 1 0
+    → {slots : ℕ} → slots ≡ slotsIn present i → {first begun : List ℕ} → length (rowBytes (rowIn links marks count i)) ≤ length first
+    → begun ≡ front (ones slots ∷ []) first → RowOnTheWay links marks count i first begun 1 0
 unfolding moveBytes
-row-begun {count} {links} {marks} lists masks {i} here {slots} e xs h f =
+row-begun {count} {links} {marks} lists masks {i} here {slots} e {first} h f =
     record {
-      fits = omega (arith, ap length f, length-front (ones slots ∷ []) xs (row-room (rowIn links marks count i) h));
+      fits = h;
       done = [];
       all = row-whole links marks count i;
-      is = written-over (length (rowIn links marks count i) ∷ []) xs (f ∙ ap (λ (s : ℕ). front (s ∷ []) xs) (moves-shown lists masks here e));
+      is = record { place = refl; written = f ∙ ap (λ (s : ℕ). front (s ∷ []) first) (moves-shown lists masks here e) };
     }
 
 module _ {links marks : List ℕ} {count i : ℕ} {first out : List ℕ} {at slot : ℕ} (way : RowOnTheWay links marks count i first out at slot) where
@@ -69,22 +67,18 @@ module _ {links marks : List ℕ} {count i : ℕ} {first out : List ℕ} {at slo
   row-place : (1 + 3 * length (way .done) ≡ at) × (1 + 3 * length row ≤ length first)
   row-place = (omega (arith, way .is .place, length-moves (way .done)), omega (arith, length-row row, way .fits))
 
-  pub row-same-length : length out ≡ length first
+  row-same-length : length out ≡ length first
   row-same-length = written-length (way .is) (omega (arith, row-size, row-place .1, length-moves (way .done)))
 
   pub row-at : at ≤ length out
   row-at = omega (arith, row-size, row-place .0, row-place .1, row-same-length)
 
-  row-whole-written : {size : ℕ} (xs : List ℕ) → rowFrom links marks count i slot ≡ [] → size ≡ length row → first ≡ front (size ∷ []) xs
-      → (at ≡ length (rowBytes row)) × (out ≡ front (rowBytes row) xs)
+  row-whole-written : rowFrom links marks count i slot ≡ [] → (at ≡ length (rowBytes row)) × (out ≡ front (rowBytes row) first)
   unfolding rowBytes
-  row-whole-written {size} xs none e f =
+  row-whole-written none =
       let whole : way .done ≡ row = sym (append-nil (way .done)) ∙ ap (λ (r : List Move). way .done ++ r) (sym none) ∙ way .all in
-      let bytes : length row ∷ moveBytes (way .done) ≡ length row ∷ moveBytes row = ap (λ (m : List Move). length row ∷ moveBytes m) whole in (
-        way .is .place ∙ ap length bytes,
-        way .is .written ∙ ap (λ (b : List ℕ). front b first) bytes ∙ ap (front (length row ∷ moveBytes row)) f
-            ∙ front-over (size ∷ []) (length row ∷ moveBytes row) xs (omega arith),
-      )
+      let bytes : length row ∷ moveBytes (way .done) ≡ length row ∷ moveBytes row = ap (λ (m : List Move). length row ∷ moveBytes m) whole in
+      (way .is .place ∙ ap length bytes, way .is .written ∙ ap (λ (b : List ℕ). front b first) bytes)
 
 module _ {links marks present : List ℕ} {count i : ℕ} (lists : WorkLists count links marks) (masks : Shown count links marks present)
     (state : List·Memᴰ i (statesIn links marks count)) {first out : List ℕ} {at rest from : ℕ}
@@ -96,9 +90,8 @@ module _ {links marks present : List ℕ} {count i : ℕ} (lists : WorkLists cou
   skips : (j : ℕ) → j < 42 → has (slotsIn present i) j ≡ false → rowFrom links marks count i j ≡ rowFrom links marks count i (j + 1)
   skips j h f = row-none links marks count i lists here j h (slot-none masks here j h f)
 
-  pub row-written : {slots : ℕ} (xs : List ℕ) → rest ≡ 0 → slots ≡ slotsIn present i → first ≡ front (ones slots ∷ []) xs → (at ≡ length (rowBytes (rowIn links marks count i))) × (out ≡ front (rowBytes (rowIn links marks count i)) xs)
-  row-written xs e s f =
-      row-whole-written way xs (left-end left (rowFrom links marks count i) skips e ∙ row-end links marks count i 42 (omega arith)) (moves-shown lists masks here s) f
+  pub row-written : rest ≡ 0 → (at ≡ length (rowBytes (rowIn links marks count i))) × (out ≡ front (rowBytes (rowIn links marks count i)) first)
+  row-written e = row-whole-written way (left-end left (rowFrom links marks count i) skips e ∙ row-end links marks count i 42 (omega arith))
 
   module _ {numbers : List ℕ} (known : Numbers count (statesIn links marks count) numbers) (some : rest ≡ 0 → ⊥) where
     abbrev slot : ℕ

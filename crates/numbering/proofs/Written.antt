@@ -8,7 +8,7 @@ use native.Mathlib.Omega.{arith}
 use lib.ListN.{length, length-append, length-take, length-drop}
 use borrow.Rule.Slice.PartMut.{putMid, midOf}
 use Rattle.plan.specs.Front.{front}
-use Rattle.plan.proofs.Front.{length-front, front-again, front-then}
+use Rattle.plan.proofs.Front.{length-front, front-then}
 
 -- w is written at the front of `out`, which was `first`, up to the place `at`
 pub record Written (w first out : List ℕ) (at : ℕ) : Type 0 where
@@ -18,9 +18,6 @@ pub record Written (w first out : List ℕ) (at : ℕ) : Type 0 where
 pub written-none : (xs : List ℕ) → Written [] xs xs 0
 unfolding front
 written-none xs = record { place = refl; written = refl }
-
-pub written-over : (w xs : List ℕ) {ys : List ℕ} → ys ≡ front w xs → Written w ys ys (length w)
-written-over w xs {ys} e = record { place = refl; written = front-again w xs ys e }
 
 pub written-length : {w first out : List ℕ} {at : ℕ} → Written w first out at → length w ≤ length first → length out ≡ length first
 written-length {w} {first} is h = ap length (is .written) ∙ length-front w first h

@@ -1,112 +1,128 @@
 // The plan's bytes by the numbered states: how many there are, and the writing of them.
-use crate::moves;
+use crate::fields;
 ghost use mathlib.Core.Path.{_≡_};
 ghost use mathlib.Core.List.{[], _∷_, List·Memᴰ};
-ghost use Prim.Native.Nat.{ℕ, _-_, _*_, _≤_, _<_};
-ghost use lib.ListN.{length, getD};
+ghost use Prim.Native.Nat.{ℕ, _+_, _-_, _*_, _≤_, _<_};
+ghost use lib.ListN.{length};
 ghost use Rattle.model.specs.Plan.{moveBytes, rowBytes, rowsBytes, indexBytes, planBytes};
+ghost use Rattle.table.specs.Links.{codeAt};
 ghost use Rattle.plan.specs.Front.{front};
+ghost use Rattle.situations.specs.Lists.{linksOf, presentOf, marksOf, orderOf, numbersOf};
 ghost use Rattle.numbering.specs.Kept.{statesIn, rowIn, rowsIn, WorkLists, Shown};
-ghost use Rattle.numbering.specs.Numbered.{InOrder, Numbers, Numbered, moveBy};
+ghost use Rattle.numbering.specs.Numbered.{InOrder, Numbers, Numbered};
 
-// How many bytes the plan has. The states stand in order.
-pub fn plan_length(
-    links: &[u16],
-    marks: &[u16],
-    present: &[u16],
-    order: &[u16],
-    count: usize,
-    states: u16,
-) -> u32
-    requires { ⌜ WorkLists count (now links) (now marks) × Shown count (now links) (now marks) (now present) × InOrder (statesIn (now links) (now marks) count) states (now order) ⌝ }
-    ensures { λ r. ⌜ ((n k : ℕ) → r ≡ length (planBytes n k (rowsIn (now (links .entry)) (now (marks .entry)) count))) ⌝ }
+// A number of states as a place in a table.
+pub fn wide(states: u16) -> usize
+    ensures { λ r. ⌜ r ≡ states ⌝ }
 {
-    let mut rows: u32 = 0;
-    let mut p: usize = 0;
-    while p < states as usize {
-        rows = rows + moves::row_length(present, order[p]);
-        p = p + 1;
-    }
+    states as usize
+}
+
+// The length of rows as an offset in the plan.
+pub fn offset_of(rows: usize) -> u32
+    requires { ⌜ rows ≤ 520192 ⌝ }
+    ensures { λ r. ⌜ r ≡ rows ⌝ }
+{
+    rows as u32
+}
+
+// An offset in the plan as a place.
+pub fn place_at(offset: u32) -> usize
+    ensures { λ r. ⌜ r ≡ offset ⌝ }
+{
+    offset as usize
+}
+
+// Where the trailer stands, if the index stands at an offset.
+pub fn trailer_at(index: u32, states: u16) -> usize
+    ensures { λ r. ⌜ r ≡ index + 4 * states ⌝ }
+{
+    (index as usize) + 4 * (states as usize)
+}
+
+// How long a plan is, if its rows have `rows` bytes.
+pub fn whole_length(rows: u32, states: u16) -> u32
+    requires { ⌜ (rows ≤ 520192) × (states ≤ 4096) ⌝ }
+    ensures { λ r. ⌜ r ≡ rows + 4 * states + 8 ⌝ }
+{
     rows + 4 * (states as u32) + 8
 }
 
-// The move by the link of a slot, at the front of what is lent.
-fn write_move(out: &mut [u8], numbers: &[u16], slot: usize, link: u16)
-    requires { ⌜ (slot < 42) × (0 < link) × (link ≤ length (now numbers)) × (0 < getD (now numbers) (link - 1) 0) × (3 ≤ length (now out)) ⌝ }
-    ensures { λ _. ⌜ now (out .exit) ≡ front (moveBytes (moveBy (now (numbers .entry)) slot link ∷ [])) (now (out .entry)) ⌝ }
+// How many bytes the plan has. The states stand in order.
+pub fn plan_length(work: &[situations::Record], count: usize, states: u16) -> u32
+    requires { ⌜ WorkLists count (linksOf (now work)) (marksOf (now work)) × Shown count (linksOf (now work)) (marksOf (now work)) (presentOf (now work)) × InOrder (statesIn (linksOf (now work)) (marksOf (now work)) count) states (orderOf (now work)) ⌝ }
+    ensures { λ r. ⌜ ((n k : ℕ) → r ≡ length (planBytes n k (rowsIn (linksOf (now (work .entry))) (marksOf (now (work .entry))) count))) ⌝ }
 {
-    let state = numbers[(link - 1) as usize] - 1;
-    plan::write::put_move(out, table::code_at(slot as u8), state);
+    let last = wide(states);
+    let mut rows: u32 = 0;
+    let mut p: usize = 0;
+    while p < last {
+        let s = situations::load(work, p);
+        let y = situations::load(work, situations::fields::order_of(s));
+        rows = rows + fields::row_length(y);
+        p = p + 1;
+    }
+    whole_length(rows, states)
+}
+
+// The move of a slot to the state with a number, at the front of what is lent.
+pub fn write_move(out: &mut [u8], slot: usize, number: u16)
+    requires { ⌜ (slot < 42) × (0 < number) × (3 ≤ length (now out)) ⌝ }
+    ensures { λ _. ⌜ now (out .exit) ≡ front (moveBytes (record { code = codeAt slot; to = number - 1 } ∷ [])) (now (out .entry)) ⌝ }
+{
+    plan::write::put_move(out, table::code_at(slot as u8), number - 1);
 }
 
 // The row of a state's situation i, at the front of what is lent: its length.
-fn write_row(
-    links: &[u16],
-    marks: &[u16],
-    present: &[u16],
-    numbers: &[u16],
-    count: usize,
-    i: usize,
-    out: &mut [u8],
-) -> usize
-    requires { ⌜ WorkLists count (now links) (now marks) × Shown count (now links) (now marks) (now present) × Numbers count (statesIn (now links) (now marks) count) (now numbers) × List·Memᴰ i (statesIn (now links) (now marks) count) × (length (rowBytes (rowIn (now links) (now marks) count i)) ≤ length (now out)) ⌝ }
-    ensures { λ r. ⌜ (r ≡ length (rowBytes (rowIn (now (links .entry)) (now (marks .entry)) count i))) × (now (out .exit) ≡ front (rowBytes (rowIn (now (links .entry)) (now (marks .entry)) count i)) (now (out .entry))) ⌝ }
+pub fn write_row(work: &[situations::Record], count: usize, i: usize, out: &mut [u8]) -> usize
+    requires { ⌜ WorkLists count (linksOf (now work)) (marksOf (now work)) × Shown count (linksOf (now work)) (marksOf (now work)) (presentOf (now work)) × Numbers count (statesIn (linksOf (now work)) (marksOf (now work)) count) (numbersOf (now work)) × List·Memᴰ i (statesIn (linksOf (now work)) (marksOf (now work)) count) × (length (rowBytes (rowIn (linksOf (now work)) (marksOf (now work)) count i)) ≤ length (now out)) ⌝ }
+    ensures { λ r. ⌜ (r ≡ length (rowBytes (rowIn (linksOf (now (work .entry))) (marksOf (now (work .entry))) count i))) × (now (out .exit) ≡ front (rowBytes (rowIn (linksOf (now (work .entry))) (marksOf (now (work .entry))) count i)) (now (out .entry))) ⌝ }
 {
-    let mut rest = moves::kept_slots(present, i);
-    plan::write::put_byte(out, u64::count_ones(rest) as u8);
+    let y = situations::load(work, i);
+    let mut rest = situations::fields::slots_of(y);
+    plan::write::put_byte(out, fields::moves_in(rest));
     let mut at: usize = 1;
     while rest != 0 {
-        let slot = u64::trailing_zeros(rest) as usize;
-        write_move(&mut out[at..], numbers, slot, links[42 * i + slot]);
+        let slot = table::lowest(rest);
+        let link = situations::next_at(work, i, slot);
+        let t = situations::load(work, situations::fields::place_of(link));
+        write_move(&mut out[at..], slot, t.number);
         at = at + 3;
-        rest = rest & (rest - 1);
+        rest = table::without_lowest(rest);
     }
     at
 }
 
 // The rows of the states, each into the rest of what is lent, directly behind the row before: their length.
-fn write_rows(
-    links: &[u16],
-    marks: &[u16],
-    present: &[u16],
-    order: &[u16],
-    numbers: &[u16],
-    count: usize,
-    states: u16,
-    out: &mut [u8],
-) -> u32
-    requires { ⌜ WorkLists count (now links) (now marks) × Shown count (now links) (now marks) (now present) × Numbered count (statesIn (now links) (now marks) count) states (now order) (now numbers) × (length (rowsBytes (rowsIn (now links) (now marks) count)) ≤ length (now out)) ⌝ }
-    ensures { λ r. ⌜ (r ≡ length (rowsBytes (rowsIn (now (links .entry)) (now (marks .entry)) count))) × (now (out .exit) ≡ front (rowsBytes (rowsIn (now (links .entry)) (now (marks .entry)) count)) (now (out .entry))) ⌝ }
+pub fn write_rows(work: &[situations::Record], count: usize, states: u16, out: &mut [u8]) -> u32
+    requires { ⌜ WorkLists count (linksOf (now work)) (marksOf (now work)) × Shown count (linksOf (now work)) (marksOf (now work)) (presentOf (now work)) × Numbered count (statesIn (linksOf (now work)) (marksOf (now work)) count) states (orderOf (now work)) (numbersOf (now work)) × (length (rowsBytes (rowsIn (linksOf (now work)) (marksOf (now work)) count)) ≤ length (now out)) ⌝ }
+    ensures { λ r. ⌜ (r ≡ length (rowsBytes (rowsIn (linksOf (now (work .entry))) (marksOf (now (work .entry))) count))) × (now (out .exit) ≡ front (rowsBytes (rowsIn (linksOf (now (work .entry))) (marksOf (now (work .entry))) count)) (now (out .entry))) ⌝ }
 {
+    let last = wide(states);
     let mut at: usize = 0;
     let mut p: usize = 0;
-    while p < states as usize {
-        let i = order[p] as usize;
-        at = at + write_row(links, marks, present, numbers, count, i, &mut out[at..]);
+    while p < last {
+        let s = situations::load(work, p);
+        at = at + write_row(work, count, situations::fields::order_of(s), &mut out[at..]);
         p = p + 1;
     }
-    at as u32
+    offset_of(at)
 }
 
 // The index: the offset of each row, the first at 0.
-fn write_index(
-    links: &[u16],
-    marks: &[u16],
-    present: &[u16],
-    order: &[u16],
-    count: usize,
-    states: u16,
-    out: &mut [u8],
-)
-    requires { ⌜ WorkLists count (now links) (now marks) × Shown count (now links) (now marks) (now present) × InOrder (statesIn (now links) (now marks) count) states (now order) × (4 * states ≤ length (now out)) ⌝ }
-    ensures { λ _. ⌜ now (out .exit) ≡ front (indexBytes 0 (rowsIn (now (links .entry)) (now (marks .entry)) count)) (now (out .entry)) ⌝ }
+pub fn write_index(work: &[situations::Record], count: usize, states: u16, out: &mut [u8])
+    requires { ⌜ WorkLists count (linksOf (now work)) (marksOf (now work)) × Shown count (linksOf (now work)) (marksOf (now work)) (presentOf (now work)) × InOrder (statesIn (linksOf (now work)) (marksOf (now work)) count) states (orderOf (now work)) × (4 * states ≤ length (now out)) ⌝ }
+    ensures { λ _. ⌜ now (out .exit) ≡ front (indexBytes 0 (rowsIn (linksOf (now (work .entry))) (marksOf (now (work .entry))) count)) (now (out .entry)) ⌝ }
 {
+    let last = wide(states);
     let mut row: u32 = 0;
     let mut at: usize = 0;
     let mut p: usize = 0;
-    while p < states as usize {
+    while p < last {
         plan::write::put_dword(&mut out[at..], row);
-        row = row + moves::row_length(present, order[p]);
+        let s = situations::load(work, p);
+        let y = situations::load(work, situations::fields::order_of(s));
+        row = row + fields::row_length(y);
         at = at + 4;
         p = p + 1;
     }
@@ -114,31 +130,19 @@ fn write_index(
 
 // The plan, at the front of what is lent; the bytes beyond it are untouched.
 pub fn write_plan(
-    links: &[u16],
-    marks: &[u16],
-    present: &[u16],
-    order: &[u16],
-    numbers: &[u16],
+    work: &[situations::Record],
     count: usize,
     states: u16,
     n: u8,
     k: u8,
     out: &mut [u8],
 )
-    requires { ⌜ WorkLists count (now links) (now marks) × Shown count (now links) (now marks) (now present) × Numbered count (statesIn (now links) (now marks) count) states (now order) (now numbers) × (length (planBytes n k (rowsIn (now links) (now marks) count)) ≤ length (now out)) ⌝ }
-    ensures { λ _. ⌜ now (out .exit) ≡ front (planBytes n k (rowsIn (now (links .entry)) (now (marks .entry)) count)) (now (out .entry)) ⌝ }
+    requires { ⌜ WorkLists count (linksOf (now work)) (marksOf (now work)) × Shown count (linksOf (now work)) (marksOf (now work)) (presentOf (now work)) × Numbered count (statesIn (linksOf (now work)) (marksOf (now work)) count) states (orderOf (now work)) (numbersOf (now work)) × (length (planBytes n k (rowsIn (linksOf (now work)) (marksOf (now work)) count)) ≤ length (now out)) ⌝ }
+    ensures { λ _. ⌜ now (out .exit) ≡ front (planBytes n k (rowsIn (linksOf (now (work .entry))) (marksOf (now (work .entry))) count)) (now (out .entry)) ⌝ }
 {
-    let index = write_rows(links, marks, present, order, numbers, count, states, out);
-    let behind = index as usize;
-    write_index(
-        links,
-        marks,
-        present,
-        order,
-        count,
-        states,
-        &mut out[behind..],
-    );
-    let trailer = behind + 4 * (states as usize);
+    let index = write_rows(work, count, states, out);
+    let behind = place_at(index);
+    write_index(work, count, states, &mut out[behind..]);
+    let trailer = trailer_at(index, states);
     plan::write::put_trailer(&mut out[trailer..], index, states, n, k);
 }

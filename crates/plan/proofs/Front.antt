@@ -33,17 +33,6 @@ module _ (at : ℕ) (xs w zs : List ℕ) (fits : at + length w ≤ length xs) (e
 drop-more : (at k : ℕ) (xs ys : List ℕ) → drop at xs ≡ drop at ys → drop (at + k) xs ≡ drop (at + k) ys
 drop-more at k xs ys h = sym (drop-drop k at xs) ∙ ap (drop k) h ∙ drop-drop k at ys
 
--- what was written is written over
-pub front-over : (v w xs : List ℕ) → length v ≤ length w → front w (front v xs) ≡ front w xs
-unfolding front
-front-over v w xs h =
-    let e : length v + (length w - length v) ≡ length w = omega arith in
-    ap (λ (ys : List ℕ). w ++ ys) (rw e at (drop-more (length v) (length w - length v) (front v xs) xs (drop-at v (drop (length v) xs) (length v) refl)))
-
--- what stands at the front stands there
-pub front-again : (v xs ys : List ℕ) → ys ≡ front v xs → ys ≡ front v ys
-front-again v xs ys e = e ∙ sym (front-over v v xs (omega arith)) ∙ ap (front v) (sym e)
-
 -- v stands at the front, and w was written into the rest: v ++ w stands at the front
 pub front-then : (at : ℕ) (xs ys v w zs : List ℕ) → ys ≡ front v xs → at ≡ length v → at + length w ≤ length xs
     → zs ≡ front w (midOf at (length ys - at) ys) → putMid at (length ys - at) ys zs ≡ front (v ++ w) xs

@@ -15,7 +15,7 @@ use Rattle.table.proofs.Chained.{Walk, walk-start, walk-most, walk-class, walk-
 use Rattle.rounds.specs.Chains.{slotAt, targetAt, intoOf, Listed}
 use Rattle.rounds.specs.Masks.{Fewer, Lost, Into, LostInto}
 use Rattle.rounds.proofs.Bits.{bit-after, fewer-after}
-use Rattle.rounds.proofs.Chains.{entry-row, entry-action, into-kind, into-link, into-is, into-target, target-into, listed-chain}
+use Rattle.rounds.proofs.Chains.{entry-row, entry-action, into-kind, into-link, into-is, into-target, target-into}
 
 and-false : (t : Bool) → (t && false) ≡ false
 and-false true = refl
@@ -34,11 +34,11 @@ pub record Losing (count : ℕ) (links : List ℕ) (t kind : ℕ) (present₀ pr
   pub fewer : Fewer present₀ present
   pub size : length present ≡ length present₀
 
-module _ {count : ℕ} {links last before : List ℕ} (w : Listed count links (42 * count) last before) (t kind : ℕ) (h : t < count) (k : kind < 3) (present₀ : List ℕ) where
+module _ {count : ℕ} {links last before : List ℕ} (w : Listed count links count last before) (t kind : ℕ) (h : t < count) (k : kind < 3) (present₀ : List ℕ) where
   pub losing-start : {at : ℕ} → at ≡ getD last (3 * t + kind) 0 → Losing count links t kind present₀ present₀ at
   losing-start e =
       record {
-        walk = walk-start (listed-chain w kind k) t h (λ entry. has (getD present₀ (3 * (entry / 14) + kind) 0) (entry % 14) ≡ false) e;
+        walk = walk-start (w .chained kind k) t h (λ entry. has (getD present₀ (3 * (entry / 14) + kind) 0) (entry % 14) ≡ false) e;
         rest = λ row j a b c. refl;
         fewer = λ row. omega arith;
         size = refl;
@@ -46,11 +46,11 @@ module _ {count : ℕ} {links last before : List ℕ} (w : Listed count links (4
 
   module _ {present : List ℕ} {at : ℕ} (v : Losing count links t kind present₀ present at) where
     pub losing-most : at ≤ 14 * count
-    losing-most = walk-most (listed-chain w kind k) t h (v .walk)
+    losing-most = walk-most (w .chained kind k) t h (v .walk)
 
     module _ (some : 0 < at) where
       pub losing-less : {next : ℕ} → next ≡ getD before (slotAt kind (at - 1)) 0 → next < at
-      losing-less e = walk-less (listed-chain w kind k) t h (v .walk) some e
+      losing-less e = walk-less (w .chained kind k) t h (v .walk) some e
 
       module _ (mask : ℕ) (room : 3 * ((at - 1) / 14) + kind < length present)
           (less : ((b : ℕ) → b < 16 → has mask b ≡ (has (getD present (3 * ((at - 1) / 14) + kind) 0) b && not (eqb b ((at - 1) % 14)))) × (mask ≤ getD present (3 * ((at - 1) / 14) + kind) 0)) where
@@ -71,7 +71,7 @@ module _ {count : ℕ} {links last before : List ℕ} (w : Listed count links (4
         other row j q = go (eqb row row₀) (eqb j j₀) refl refl
           where
             own : intoOf links t kind row₀ j₀ ≡ true
-            own = target-into count links t kind (at - 1) h k (walk-class (listed-chain w kind k) t h (v .walk) some)
+            own = target-into count links t kind (at - 1) h k (walk-class (w .chained kind k) t h (v .walk) some)
 
             go : (a b : Bool) → eqb row row₀ ≡ a → eqb j j₀ ≡ b → (a && b) ≡ false
             go false b d e = refl
@@ -83,7 +83,7 @@ module _ {count : ℕ} {links last before : List ℕ} (w : Listed count links (4
             → Losing count links t kind present₀ (set present (3 * ((at - 1) / 14) + kind) mask) next
         losing-next e =
             record {
-              walk = walk-next (listed-chain w kind k) t h (v .walk) some e
+              walk = walk-next (w .chained kind k) t h (v .walk) some e
                   (λ entry d. after (3 * (entry / 14) + kind) (entry % 14) (omega arith) ∙ rw d) here;
               rest = λ row j a b c. after row j (omega arith) ∙ rw (other row j c) (and-true (has (getD present row 0) j)) ∙ v .rest row j a b c;
               fewer = λ row. omega (arith, fewer-after present row₀ mask room (less .1) row, v .fewer row);
@@ -100,7 +100,7 @@ module _ {count : ℕ} {links last before : List ℕ} (w : Listed count links (4
             let entry = 14 * (row / 3) + j in
             let row-is : 3 * (entry / 14) + kind ≡ row = omega (arith, entry-row row j b) in
             let lost : has (getD present (3 * (entry / 14) + kind) 0) (entry % 14) ≡ false =
-            walk-end (listed-chain w kind k) t h (v .walk) none entry (omega arith) (into-target count links t kind row j b e) in
+            walk-end (w .chained kind k) t h (v .walk) none entry (omega arith) (into-target count links t kind row j b e) in
             sym (ap (λ (r : ℕ). has (getD present r 0) j) row-is) ∙ sym (ap (λ (j : ℕ). has (getD present (3 * (entry / 14) + kind) 0) j) (entry-action row j b)) ∙ lost ∙ sym (and-false (has (getD present₀ row 0) j))
 
 -- ---- into a part of the queue

@@ -1,4 +1,6 @@
 pub mod Chains
 pub mod Masks
-pub mod Removing
 pub mod Settled
+pub mod Removing
+pub mod Records
+pub mod Work

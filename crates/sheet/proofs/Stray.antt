@@ -7,11 +7,10 @@ use Prim.Native.Nat.{ℕ, zero, suc, _+_, _*_, _/_, _%_, _^_, _<_, _≤_}
 use native.Mathlib.Nat.{div-div-eq-div-mul, pow-succ'}
 use native.Mathlib.Omega.{arith}
 use lib.Dec.{eqb, ltb, leb, leb·zero, leb·suc-zero, leb·suc-suc}
-use lib.ListN.{length, getD}
 use lib.Pow.{pow-pos, pow-add}
 use borrow.Author.Tests.{le-ltb, le-leb, lt-leb, leb-true, leb-false}
 use Rattle.model.specs.Lists.{any, upto}
-use Rattle.model.specs.Contract.{has, name, takes, actions, offersIn}
+use Rattle.model.specs.Contract.{has, name, takes, actions}
 use Rattle.model.specs.Sheet.{strayBit}
 use Rattle.sheet.proofs.Ones.{low-bits, has-lowest, has-half}
 
@@ -126,38 +125,3 @@ module _ (n role mask limit : ℕ) (l : role ≤ 1) (h : mask < 65536) (e : limi
 
   pub stray-mark : mask % 128 < limit → mask / 128 % 128 < limit → ltb role (mask / 16384) ≡ strayBit n role mask
   stray-mark t s = rw stray-tests (simp (lt-leb limit (mask % 128) t, lt-leb limit (mask / 128 % 128) s))
-
--- ---- no stray bit: every action of a mask is over a name below n
-or-none : (p q : Bool) → (p || q) ≡ false → (p ≡ false) × (q ≡ false)
-or-none false q h = (refl, h)
-or-none true q h = let z : _≡_ {A = ℕ} 0 1 = cc in absurd (omega arith)
-
-any-none : (p : ℕ → Bool) (count j : ℕ) → any p (upto 0 count) ≡ false → j < count → p j ≡ false
-unfolding any upto
-any-none p zero j h l = absurd (omega arith)
-any-none p (suc count) zero h l = or-none (p 0) (any p (upto 1 count)) h .0
-any-none p (suc count) (suc j) h l =
-    any-none (λ i. p (suc i)) count j (sym (any-next p 0 count) ∙ or-none (p 0) (any p (upto 1 count)) h .1)
-    (omega arith)
-
-pub clean-name : (n role mask j : ℕ) → strayBit n role mask ≡ false → j < 14 → has mask j ≡ true → name j < n
-unfolding strayBit actions
-clean-name n role mask j h l b =
-    let stray : ℕ → Bool = λ i. has mask i && leb n (name i) in
-    let names = or-none (any stray actions || has mask 15) (has mask 14 && eqb role 0) h .0 in
-    let none = any-none stray 14 j (or-none (any stray actions) (has mask 15) names .0) l in
-    leb-false n (name j) (ap (λ (t : Bool). t && leb n (name j)) (sym b) ∙ none)
-
--- an action that ready sets offer is in one of them
-abbrev InSome : List ℕ → ℕ → Type 0
-InSome masks j = (k : ℕ) × (k < length masks) × (has (getD masks k 0) j ≡ true)
-
-pub offered-in : (masks : List ℕ) (j : ℕ) → offersIn masks j ≡ true → InSome masks j
-unfolding offersIn any
-offered-in [] j h = let z : _≡_ {A = ℕ} 0 1 = cc in absurd (omega arith)
-offered-in (mask ∷ masks) j h = go (has mask j) refl (λ later. offered-in masks j later) where
-  go : (t : Bool) → has mask j ≡ t → (offersIn masks j ≡ true → InSome masks j) → InSome (mask ∷ masks) j
-  go true e rest = (0, omega arith, e)
-  go false e rest =
-      let found = rest (ap (λ (t : Bool). t || offersIn masks j) (sym e) ∙ h) in
-      (suc (found .0), omega (arith, found .1), found .2)

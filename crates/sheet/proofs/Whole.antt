@@ -9,7 +9,7 @@ use lib.Dec.{leb}
 use lib.ListN.{length, getD}
 use borrow.Author.Tests.{leb-true, eqb-true}
 use Rattle.model.specs.Bytes.{byte, word}
-use Rattle.model.specs.Contract.{State, state, nowhere, name, has, offers, after}
+use Rattle.model.specs.Contract.{State, state, nowhere, has, offers, after}
 use Rattle.model.specs.Sheet.{Reading, Fault, Trailer, Sheet, good, trailer, goodTrailer, readSheet, sheetOf, contractIn, roleIn}
 use Rattle.model.proofs.Sheet.{WellFormed, good-injective, then-good, sheet-well-formed}
 use Rattle.sheet.specs.Union.{unionOf, onesBelow}
@@ -18,7 +18,6 @@ use Rattle.sheet.specs.Offer.{offerIn, placeIn}
 use Rattle.sheet.specs.declared.Offer.{Offer}
 use Rattle.sheet.proofs.Union.{has-union}
 use Rattle.sheet.proofs.Ones.{ones-offered, ones-less, ones-place}
-use Rattle.sheet.proofs.Stray.{clean-name, offered-in}
 use Rattle.sheet.proofs.Reading.{check-true, both-true}
 use Rattle.sheet.proofs.Rows.{RowStands, StatesStand, states-stand}
 
@@ -94,12 +93,6 @@ module _ (b : List ℕ) (whole : IsSheet b) where
   pub states-some : 1 ≤ length (contractIn b .states)
   states-some = omega (arith, count-is, sheet-stands b whole .numbers .some)
 
-  pub states-few : length (contractIn b .states) ≤ 64
-  states-few = omega (arith, count-is, sheet-stands b whole .numbers .few)
-
-  pub names-few : contractIn b .n ≤ 7
-  names-few = omega (arith, sheet-stands b whole .names, sheet-stands b whole .numbers .names)
-
   module _ (q : ℕ) (h : q < length (contractIn b .states)) where
     abbrev s : State
     s = state (contractIn b) q
@@ -143,11 +136,3 @@ module _ (b : List ℕ) (whole : IsSheet b) where
       pub successor-below : after s j < length (contractIn b .states)
       unfolding after
       successor-below = rw (ones-place s j (omega arith)) (omega (arith, count-is, row-stands .within _ place-within))
-
-      -- its name is one of the contract's
-      pub name-below : name j < contractIn b .n
-      unfolding offers
-      name-below =
-          let found = offered-in (s .ready) j o in
-          let clean = row-stands .clean (found .0) (found .1) in
-          omega (arith, sheet-stands b whole .names, clean-name _ _ _ j clean l (found .2))

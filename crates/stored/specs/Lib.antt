@@ -1,2 +1,3 @@
-pub mod Lent
+pub mod Counts
+pub mod Gives
 pub mod Run

@@ -1,8 +1,10 @@
 // What a call left of the lent records and plan bytes: a digest of the plan, and how many records have a value in all their numbers.
 ghost use mathlib.Core.Path.{_≡_};
-ghost use Prim.Native.Nat.{_+_, _*_, _%_, _≤_, _<_};
-ghost use lib.ListN.{length};
-ghost use Rattle.stored.specs.Lent.{Lent};
+ghost use mathlib.Core.Bool.{_&&_, cond};
+ghost use Prim.Native.Nat.{_+_, _*_, _^_, _%_, _<_};
+ghost use lib.Dec.{eqb};
+ghost use Rattle.model.specs.Lists.{all};
+ghost use Rattle.stored.specs.Counts.{singles, filledWith, countOf};
 
 // The digest of bytes and one more behind them.
 fn digested(figure: u64, byte: u8) -> u64
@@ -13,7 +15,7 @@ fn digested(figure: u64, byte: u8) -> u64
 }
 
 // A figure for many bytes, 0 for none.
-fn digest(bytes: &[u8]) -> u64 {
+pub fn digest(bytes: &[u8]) -> u64 {
     let mut figure: u64 = 0;
     let mut i: usize = 0;
     while i < bytes.len() {
@@ -23,13 +25,13 @@ fn digest(bytes: &[u8]) -> u64 {
     figure
 }
 
-// Whether so many numbers from a place on all have a value.
-fn numbers_are(list: &[u16], first: usize, size: usize, value: u16) -> bool
-    requires { ⌜ first + size ≤ length (now list) ⌝ }
+// Whether all bytes have a value.
+fn bytes_are(list: &[u8], value: u8) -> bool
+    ensures { λ r. ⌜ r ≡ all (eqb value) (now (list .entry)) ⌝ }
 {
     let mut i: usize = 0;
-    while i < size {
-        if list[first + i] != value {
+    while i < list.len() {
+        if list[i] != value {
             return false;
         }
         i += 1;
@@ -37,84 +39,112 @@ fn numbers_are(list: &[u16], first: usize, size: usize, value: u16) -> bool
     true
 }
 
-// Whether all numbers of record i have a value.
-fn record_is(
-    keys: &[u64],
-    links: &[u16],
-    marks: &[u16],
-    order: &[u16],
-    numbers: &[u16],
-    present: &[u16],
-    last: &[u16],
-    before: &[u16],
-    i: usize,
-    value: u16,
-) -> bool
-    requires { ⌜ Lent (now keys) (now links) (now marks) (now order) (now numbers) (now present) (now last) (now before) × (i < length (now keys)) ⌝ }
+// Whether all numbers have a value.
+fn numbers_are(list: &[u16], value: u16) -> bool
+    ensures { λ r. ⌜ r ≡ all (eqb value) (now (list .entry)) ⌝ }
 {
-    keys[i] == value as u64
-        && numbers_are(links, 42 * i, 42, value)
-        && numbers_are(marks, i, 1, value)
-        && numbers_are(order, i, 1, value)
-        && numbers_are(numbers, i, 1, value)
-        && numbers_are(present, 3 * i, 3, value)
-        && numbers_are(last, 3 * i, 3, value)
-        && numbers_are(before, 42 * i, 42, value)
-}
-
-// How many records have a value in all their numbers.
-fn count_records(
-    keys: &[u64],
-    links: &[u16],
-    marks: &[u16],
-    order: &[u16],
-    numbers: &[u16],
-    present: &[u16],
-    last: &[u16],
-    before: &[u16],
-    value: u16,
-) -> usize
-    requires { ⌜ Lent (now keys) (now links) (now marks) (now order) (now numbers) (now present) (now last) (now before) ⌝ }
-{
-    let mut found: usize = 0;
     let mut i: usize = 0;
-    while i < keys.len() {
-        if record_is(
-            keys,
-            links,
-            marks,
-            order,
-            numbers,
-            present,
-            last,
-            before,
-            i,
-            value,
-        ) {
-            found += 1;
+    while i < list.len() {
+        if list[i] != value {
+            return false;
         }
         i += 1;
+    }
+    true
+}
+
+fn both(a: bool, b: bool) -> bool
+    ensures { λ r. ⌜ r ≡ (a && b) ⌝ }
+{
+    if a { b } else { false }
+}
+
+fn is_wide(number: u32, value: u8) -> bool
+    ensures { λ r. ⌜ r ≡ eqb value number ⌝ }
+{
+    value as u32 == number
+}
+
+fn counts_are(at: moves::Situation, value: u8) -> bool
+    ensures { λ r. ⌜ r ≡ all (eqb value) (at .buffer .counts) ⌝ }
+{
+    let buffer = at.buffer;
+    let counts = buffer.counts;
+    bytes_are(&counts, value)
+}
+
+fn last_is(y: situations::Record, value: u16) -> bool
+    ensures { λ r. ⌜ r ≡ all (eqb value) (y .last) ⌝ }
+{
+    let last = y.last;
+    numbers_are(&last, value)
+}
+
+fn next_is(y: situations::Record, value: u16) -> bool
+    ensures { λ r. ⌜ r ≡ all (eqb value) (y .next) ⌝ }
+{
+    let next = y.next;
+    numbers_are(&next, value)
+}
+
+fn before_is(y: situations::Record, value: u16) -> bool
+    ensures { λ r. ⌜ r ≡ all (eqb value) (y .before) ⌝ }
+{
+    let before = y.before;
+    numbers_are(&before, value)
+}
+
+// Whether the numbers of a record that stand alone have a value.
+fn singles_are(y: situations::Record, value: u16) -> bool
+    ensures { λ r. ⌜ r ≡ all (eqb value) (singles y) ⌝ }
+{
+    let present = y.present;
+    let numbers = [
+        y.at.old as u16,
+        y.at.new as u16,
+        y.head,
+        y.order,
+        y.mark,
+        y.number,
+        present.straight,
+        present.client,
+        present.service,
+    ];
+    numbers_are(&numbers, value)
+}
+
+// Whether all numbers of a record have a value.
+fn record_is(y: situations::Record, value: u8) -> bool
+    ensures { λ r. ⌜ r ≡ filledWith value y ⌝ }
+{
+    let number = value as u16;
+    let counts = both(counts_are(y.at, value), is_wide(y.packed, value));
+    let numbers = both(singles_are(y, number), last_is(y, number));
+    let rows = both(next_is(y, number), before_is(y, number));
+    both(counts, both(numbers, rows))
+}
+
+// How many are found, with one record more that may have a value in all its numbers.
+pub fn found_with(found: usize, y: situations::Record, value: u8) -> usize
+    requires { ⌜ found < 2 ^ 63 ⌝ }
+    ensures { λ r. ⌜ r ≡ found + cond (filledWith value y) 1 0 ⌝ }
+{
+    if record_is(y, value) {
+        return found + 1;
     }
     found
 }
 
-// The part of the line that tells what became of the lent plan and records, in which every number was 1.
-pub fn print_lent(
-    keys: &[u64],
-    links: &[u16],
-    marks: &[u16],
-    order: &[u16],
-    numbers: &[u16],
-    present: &[u16],
-    last: &[u16],
-    before: &[u16],
-    plan: &[u8],
-)
-    requires { ⌜ Lent (now keys) (now links) (now marks) (now order) (now numbers) (now present) (now last) (now before) ⌝ }
+// How many records have a value in all their numbers.
+pub fn count_records(work: &[situations::Record], value: u8) -> usize
+    ensures { λ r. ⌜ r ≡ countOf value (now (work .entry)) ⌝ }
 {
-    records::print_figure(digest(plan));
-    let zero = count_records(keys, links, marks, order, numbers, present, last, before, 0);
-    records::print_figure(zero as u64);
-    let same = count_records(keys, links, marks, order, numbers, present, last, before, 1);
-    records::print_last(same as u64);
+    let mut found: usize = 0;
+    let mut i: usize = 0;
+    while i < work.len() {
+        let y = situations::load(work, i);
+        found = found_with(found, y, value);
+        i = i + 1;
+    }
+    found
 }

@@ -2,10 +2,13 @@
 // behind its length, and the second. Its line: number, sheet, state; situations, plan states, rounds; plan length; digest of the lent plan;
 // lent records that are zero, and lent records that are as they were.
 ghost use mathlib.Core.Path.{_≡_};
-ghost use Prim.Native.Nat.{_*_, _≤_, _<_};
-ghost use lib.ListN.{length};
-ghost use Rattle.stored.specs.Lent.{Lent};
-use crate::lent::print_lent;
+ghost use Prim.Native.Nat.{_≤_};
+ghost use lib.ListN.{length, replicate};
+ghost use Rattle.model.specs.Connect.{connectOf};
+ghost use Rattle.situations.specs.Records.{blank};
+ghost use Rattle.stored.specs.Gives.{before, Gives};
+use crate::lent::count_records;
+use crate::lent::digest;
 
 fn print_answer(answer: connect::Answer) {
     records::print_figure(answer.number as u64);
@@ -17,79 +20,91 @@ fn print_answer(answer: connect::Answer) {
     records::print_figure(answer.length as u64);
 }
 
-// Connects two sheets and prints the line.
-fn connect_lent(
+// What a call gave: the answer, and how many of the lent records are zero and how many are as they were.
+pub struct Outcome {
+    pub answer: connect::Answer,
+    pub zero: usize,
+    pub same: usize,
+}
+
+// An answer, with what was counted behind it.
+pub fn counted(answer: connect::Answer, zero: usize, same: usize) -> Outcome
+    ensures { λ r. ⌜ r ≡ record { answer = answer; zero = zero; same = same } ⌝ }
+{
+    Outcome {
+        answer: answer,
+        zero: zero,
+        same: same,
+    }
+}
+
+// Connects two sheets, and counts what became of the lent records, in which every number was 1.
+pub fn connect_lent(
     k: u8,
     old: &[u8],
     new: &[u8],
-    keys: &mut [u64],
-    links: &mut [u16],
-    marks: &mut [u16],
-    order: &mut [u16],
-    numbers: &mut [u16],
-    present: &mut [u16],
-    last: &mut [u16],
-    before: &mut [u16],
+    work: &mut [situations::Record],
     plan: &mut [u8],
-)
-    requires { ⌜ Lent (now keys) (now links) (now marks) (now order) (now numbers) (now present) (now last) (now before) ⌝ }
+) -> Outcome
+    ensures { λ r. ⌜ Gives (connectOf blank k (now (old .entry)) (now (new .entry)) (now (work .entry)) (now (plan .entry))) r (now (plan .exit)) ⌝ }
 {
-    let answer = connect::connect(
-        k,
-        old,
-        new,
-        keys,
-        links,
-        marks,
-        order,
-        numbers,
-        present,
-        last,
-        before,
-        plan,
-    );
-    print_answer(answer);
-    print_lent(
-        keys,
-        links,
-        marks,
-        order,
-        numbers,
-        present,
-        last,
-        before,
-        plan,
-    );
+    let answer = connect::connect(k, old, new, work, plan);
+    let zero = count_records(work, 0);
+    let same = count_records(work, 1);
+    counted(answer, zero, same)
 }
 
-// What the lists hold before the call: no record is zero, and every byte of the plan is EE hex. They are as long as the stored cases ask for.
-fn keys_before() -> [u64; 5000]
-    ensures { λ r. ⌜ 5000 ≡ length r ⌝ }
+// What a record holds before the call: no number of it is zero.
+pub fn record_before() -> situations::Record
+    ensures { λ r. ⌜ r ≡ before ⌝ }
 {
-    [1; 5000]
+    let buffer = moves::Buffer { counts: [1u8; 14] };
+    let at = moves::Situation {
+        buffer: buffer,
+        old: 1,
+        new: 1,
+    };
+    let present = moves::Present {
+        straight: 1,
+        client: 1,
+        service: 1,
+    };
+    situations::Record {
+        at: at,
+        packed: 1,
+        head: 1,
+        order: 1,
+        mark: 1,
+        number: 1,
+        present: present,
+        last: [1u16; 3],
+        next: [1u16; 42],
+        before: [1u16; 42],
+    }
 }
 
-// The links or the earlier incoming moves.
-fn links_before() -> [u16; 210000]
-    ensures { λ r. ⌜ 210000 ≡ length r ⌝ }
+// Lends so many records, of as many as the stored cases ask for.
+fn lend_records(k: u8, old: &[u8], new: &[u8], count: usize, plan: &mut [u8]) -> Outcome
+    requires { ⌜ count ≤ 5000 ⌝ }
+    ensures { λ r. ⌜ Gives (connectOf blank k (now (old .entry)) (now (new .entry)) (replicate count before) (now (plan .entry))) r (now (plan .exit)) ⌝ }
 {
-    [1; 210000]
+    let y = record_before();
+    let mut work = [y; 5000];
+    connect_lent(k, old, new, &mut work[..count], plan)
 }
 
-// The marks, the order or the numbers.
-fn list_before() -> [u16; 5000]
-    ensures { λ r. ⌜ 5000 ≡ length r ⌝ }
+// Lends so many records, and prints the line.
+fn print_case(k: u8, old: &[u8], new: &[u8], count: usize, plan: &mut [u8])
+    requires { ⌜ count ≤ 5000 ⌝ }
 {
-    [1; 5000]
+    let outcome = lend_records(k, old, new, count, plan);
+    print_answer(outcome.answer);
+    records::print_figure(digest(plan));
+    records::print_figure(outcome.zero as u64);
+    records::print_last(outcome.same as u64);
 }
 
-// The masks of present moves or the last incoming moves.
-fn kinds_before() -> [u16; 15000]
-    ensures { λ r. ⌜ 15000 ≡ length r ⌝ }
-{
-    [1; 15000]
-}
-
+// What the plan holds before the call: every byte is EE hex.
 fn plan_before() -> [u8; 65535]
     ensures { λ r. ⌜ 65535 ≡ length r ⌝ }
 {
@@ -100,31 +115,8 @@ fn plan_before() -> [u8; 65535]
 fn lend(k: u8, old: &[u8], new: &[u8], count: usize, room: usize)
     requires { ⌜ (count ≤ 5000) × (room ≤ 65535) ⌝ }
 {
-    let mut keys = keys_before();
-    let mut links = links_before();
-    let mut marks = list_before();
-    let mut order = list_before();
-    let mut numbers = list_before();
-    let mut present = kinds_before();
-    let mut last = kinds_before();
-    let mut before = links_before();
     let mut plan = plan_before();
-    let linked = 42 * count;
-    let kinds = 3 * count;
-    connect_lent(
-        k,
-        old,
-        new,
-        &mut keys[..count],
-        &mut links[..linked],
-        &mut marks[..count],
-        &mut order[..count],
-        &mut numbers[..count],
-        &mut present[..kinds],
-        &mut last[..kinds],
-        &mut before[..linked],
-        &mut plan[..room],
-    );
+    print_case(k, old, new, count, &mut plan[..room]);
 }
 
 pub fn answer(record: &[u8]) {

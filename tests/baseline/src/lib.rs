@@ -17,6 +17,9 @@ pub use client::complies;
 pub use connect::Workspace;
 pub use plan::step;
 
+/// The length of the longest sheet.
+pub const LONGEST_SHEET: usize = 2118;
+
 /// The most situations that a call may reach, whatever is lent.
 pub const MOST_SITUATIONS: usize = 4096;
 

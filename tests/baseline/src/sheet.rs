@@ -1,6 +1,6 @@
 //! Contracts, read from their sheets (document 01, "Contracts as sheets").
 
-use crate::Refusal;
+use crate::{Refusal, LONGEST_SHEET};
 
 pub const SERVICE: u8 = 0;
 pub const CLIENT: u8 = 1;
@@ -12,7 +12,6 @@ pub const SUCCESS: u16 = 1 << 14;
 pub const ACTIONS: u16 = SUCCESS - 1;
 
 const TRAILER: usize = 6;
-const LONGEST: usize = 2118;
 const CLOSING: u8 = 0xC5;
 const MOST_STATES: usize = 64;
 const MOST_NAMES: u8 = 7;
@@ -82,7 +81,7 @@ impl Contract {
 
     /// The index's offset, or the first of refusals 1 to 3.
     fn read_trailer(&mut self, sheet: &[u8]) -> Result<usize, u8> {
-        if !(TRAILER..=LONGEST).contains(&sheet.len()) {
+        if !(TRAILER..=LONGEST_SHEET).contains(&sheet.len()) {
             return Err(1);
         }
         let trailer = &sheet[sheet.len() - TRAILER..];

@@ -9,14 +9,13 @@ pub enum Call {
     Complies(Complies),
 }
 
-/// `spare` and `null` are those of `product::Lent`; with `null`, slices without bytes pass as null pointers.
+/// With `null`, slices without elements pass as null pointers.
 #[derive(Clone, Debug, Default, PartialEq, Eq)]
 pub struct Connect {
     pub k: u8,
     pub old: Vec<u8>,
     pub new: Vec<u8>,
     pub records: usize,
-    pub spare: usize,
     pub room: usize,
     pub null: bool,
 }
@@ -37,10 +36,9 @@ pub struct Complies {
 }
 
 impl Connect {
-    /// A call with so many records and plan bytes lent; for one in four, lists have elements to spare.
+    /// A call with so many records and plan bytes lent.
     pub fn new(chance: &mut Chance, k: u8, old: Vec<u8>, new: Vec<u8>, records: usize, room: usize) -> Connect {
-        let spare = if chance.one_in(4) { chance.number() as usize } else { 0 };
-        Connect { k, old, new, records, spare, room, null: chance.one_in(2) }
+        Connect { k, old, new, records, room, null: chance.one_in(2) }
     }
 }
 
@@ -115,10 +113,9 @@ impl Call {
     #[rustfmt::skip]
     pub fn fields(&mut self) -> Vec<(&'static str, Field<'_>)> {
         match self {
-            Call::Connect(Connect { k, old, new, records, spare, room, null }) => vec![
+            Call::Connect(Connect { k, old, new, records, room, null }) => vec![
                 ("k", Field::Byte(k)), ("old", Field::Bytes(old)), ("new", Field::Bytes(new)),
-                ("records", Field::Size(records)), ("spare", Field::Size(spare)),
-                ("room", Field::Size(room)), ("null", Field::Flag(null)),
+                ("records", Field::Size(records)), ("room", Field::Size(room)), ("null", Field::Flag(null)),
             ],
             Call::Step(Step { plan, state, code, null }) => vec![
                 ("plan", Field::Bytes(plan)), ("state", Field::Word(state)),

@@ -73,7 +73,7 @@ fn a_wrong_state_of_a_refusal() {
             figures[2] -= 1;
         }
     });
-    let Call::Connect(Connect { k: 0, old, new, records: 0, spare: 0, room: 0, null: false }) = call else {
+    let Call::Connect(Connect { k: 0, old, new, records: 0, room: 0, null: false }) = call else {
         panic!("not small: {call:?}");
     };
     // Two rows, the second with one ready set and one successor, the index and the trailer.
@@ -87,7 +87,7 @@ fn a_wrong_byte_of_a_plan() {
             plan.inside_mut()[0] ^= 1;
         }
     });
-    assert!(matches!(call, Call::Connect(Connect { records: 2, spare: 0, null: false, .. })), "{call:?}");
+    assert!(matches!(call, Call::Connect(Connect { records: 2, null: false, .. })), "{call:?}");
 }
 
 #[test]

@@ -1,5 +1,6 @@
 //! The product's functions as C sees them.
 
+use crate::table::Record;
 use std::ptr::{null, null_mut};
 
 /// What connecting answers.
@@ -39,14 +40,7 @@ extern "C" {
         k: u8,
         old: *const u8, old_length: usize,
         new: *const u8, new_length: usize,
-        keys: *mut u64, keys_length: usize,
-        links: *mut u16, links_length: usize,
-        marks: *mut u16, marks_length: usize,
-        order: *mut u16, order_length: usize,
-        numbers: *mut u16, numbers_length: usize,
-        present: *mut u16, present_length: usize,
-        last: *mut u16, last_length: usize,
-        before: *mut u16, before_length: usize,
+        work: *mut Record, work_length: usize,
         plan: *mut u8, plan_length: usize,
     ) -> Answer;
 

@@ -2,11 +2,10 @@
 //! C, or how the work table is lent.
 
 mod foreign;
-mod list;
 mod table;
 
 pub use foreign::{Answer, Compliance, Stepped};
-pub use table::{Lent, Table};
+pub use table::{Lent, Record, Table};
 
 use foreign::passed;
 

@@ -1,13 +1,12 @@
 -- `connect::refusal` meets its contract, field by field.
 -- Assumes nothing.
 use mathlib.Core.Path.{refl}
-use Rattle.model.specs.Connect.{refused}
-use Rattle.connect.specs.Answers.{answerOf}
+use Rattle.connect.specs.Answers.{answerOf, refusing}
 use Rattle.connect.proofs.refusal.Statement.{statement}
 use Rattle.connect.proofs.refusal.Tie as tie
 
 returns : tie.Need-returns
-unfolding answerOf refused
+unfolding answerOf refusing
 returns c = refl
 
 pub refusal-spec : {M : Type 1} → statement M

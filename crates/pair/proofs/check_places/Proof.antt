@@ -1,6 +1,6 @@
 -- `pair::check_places` meets its contract: role by role, then the names.
 -- Assumes nothing.
-use mathlib.Core.Path.{_≡_, sym, _∙_}
+use mathlib.Core.Path.{sym, _∙_}
 use borrow.Author.Needs.{needs}
 use Rattle.pair.proofs.Pairs.{first-role, second-role, other-names, good-pair}
 use Rattle.pair.proofs.check_places.Statement.{statement}
