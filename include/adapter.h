@@ -1,0 +1,137 @@
+/*
+ * Connecting two service contracts, stepping a plan, checking a client against a service: the proved library for C and C++.
+ *
+ * `rt staticlib capi` proves the library and writes it to target/staticlib/libcapi.a, for x86-64 Linux. It needs nothing else but memcpy and
+ * memset of the C library. examples/c is a program that uses it. The rules, sheets and plans are those of document 01; the words in quotation
+ * marks below are taken from it.
+ *
+ * What the caller promises. The proof begins here: of a call that breaks one of these, nothing is said.
+ *   - Each pointer leads to as many elements as the length behind it says, in one object, all of them initialised; any values will do. A
+ *     length counts elements: records for the work table, bytes for all else. With length 0 the pointer may be null.
+ *   - The work table is aligned as an array of struct adapter_situation is, to 4 bytes. Bytes may stand anywhere.
+ *   - The work table and the lent plan overlap nothing else that is passed. What is only read may overlap: one sheet may be passed twice.
+ *   - While a call runs, nothing else writes to what is passed, or reads the work table or the lent plan.
+ *
+ * What it gets for that. Bytes of all kinds and lengths are answered, by a result or a refusal; every call ends; no call reads or writes
+ * anything but what is passed.
+ *   - All memory is the caller's, before and after. No pointer is kept when a call returns.
+ *   - Nothing is allocated, and there is no global state. Calls on distinct buffers are re-entrant, and may run at the same time; what is only
+ *     read may be shared between them.
+ *   - There is no recursion. Of the stack, adapter_complies uses some 13 KiB and the others less than 2 KiB; that is measured and not proved.
+ */
+#ifndef ADAPTER_H
+#define ADAPTER_H
+
+#include <stddef.h>
+#include <stdint.h>
+
+#ifdef __cplusplus
+extern "C" {
+#endif
+
+/* The bytes of the longest sheet. A longer one is refused as ADAPTER_LENGTH. */
+#define ADAPTER_LONGEST_SHEET 2118
+
+/* The most situations of a pair, and the most states of a plan. More records than these are never used. */
+#define ADAPTER_MOST_SITUATIONS 4096
+
+/* The bytes of the longest plan: so many states with 42 moves of 3 bytes each. With this much lent, no plan is refused as ADAPTER_ROOM. */
+#define ADAPTER_LONGEST_PLAN 536584
+
+/* The number of an answer: 0, or what is wrong. The comments are document 01's, "Given when". */
+enum adapter_refusal {
+    ADAPTER_ACCEPTED = 0,
+    ADAPTER_LENGTH = 1,      /* sheet below 6 or above 2,118 bytes */
+    ADAPTER_TRAILER = 2,     /* count, n, role or closing byte wrong */
+    ADAPTER_INDEX = 3,       /* index offset + 2 times states + 6 is not the length */
+    ADAPTER_ROW = 4,         /* row not where the index says, past the index, or a gap after the last */
+    ADAPTER_READY = 5,       /* count not 1 to 8, or masks not strictly ascending */
+    ADAPTER_ACTION = 6,      /* a bit for no name, bit 15, or bit 14 in role 0 */
+    ADAPTER_SUCCESSOR = 7,   /* successor not below the state count */
+    ADAPTER_ROLE = 8,        /* wrong role for the place */
+    ADAPTER_NAMES = 9,       /* the two sheets differ in n */
+    ADAPTER_RANK = 10,       /* k above 3 */
+    ADAPTER_CAPACITY = 11,   /* reached situations exceed the lent records or 4,096 */
+    ADAPTER_NO_ADAPTER = 12, /* the start is removed: there is no adapter for this k */
+    ADAPTER_ROOM = 13,       /* the plan is longer than the lent plan */
+    ADAPTER_PLAN = 14,       /* a stepped plan breaks the plan layout */
+    ADAPTER_STATE = 15,      /* not a state of the plan */
+    ADAPTER_MOVE = 16        /* code not in that row */
+};
+
+/*
+ * A record of the work table: 208 bytes, aligned to 4. What stands in it is the library's own and may change; a caller makes room for records
+ * and looks at none. It holds a situation and all that the library keeps of it.
+ */
+struct adapter_situation {
+    uint32_t room[52];
+};
+
+/* What connecting answers, in 16 bytes. Bytes between the fields mean nothing. */
+struct adapter_answer {
+    uint8_t number;      /* an enum adapter_refusal, up to ADAPTER_ROOM */
+    uint8_t sheet;       /* of refusals 1 to 8: 1 for the old sheet, 2 for the new one; else 0 */
+    uint8_t state;       /* of refusals 4 to 7: the state at fault; else 0 */
+    uint16_t situations; /* the counts: 0 0 0 for refusals 1 to 11 */
+    uint16_t states;     /* of the plan; 0 for refusal 12 */
+    uint16_t rounds;     /* that removed a situation */
+    uint32_t length;     /* of the plan, in bytes; 0 on a refusal */
+};
+
+/* What stepping answers, in 4 bytes. */
+struct adapter_step_answer {
+    uint8_t number; /* ADAPTER_ACCEPTED, ADAPTER_PLAN, ADAPTER_STATE or ADAPTER_MOVE */
+    uint16_t state; /* the next state; 0 on a refusal */
+};
+
+/* What the client check answers, in 4 bytes. */
+struct adapter_complies_answer {
+    uint8_t number; /* an enum adapter_refusal, up to ADAPTER_NAMES */
+    uint8_t sheet;  /* of refusals 1 to 8: 1 for the client's sheet, 2 for the service's; else 0 */
+    uint8_t state;  /* of refusals 4 to 7: the state at fault; else 0 */
+    uint8_t yes;    /* 1 if the client complies, 0 if it does not or on a refusal */
+};
+
+/*
+ * Connects two service sheets, with up to k messages of each name and direction kept (k is 0 to 3), and writes the plan.
+ *
+ * The work table needs no values of its own before a call; calloc, or a static array, is enough to start with. It is the memory of the call:
+ * a record for each situation that the pair reaches. After the call:
+ *
+ *   number       the work table                  the lent plan
+ *   1 to 10      unchanged                       unchanged
+ *   11 to 13     each record in it is zero       unchanged
+ *   0            each record in it is zero       its first `length` bytes are the plan; "bytes beyond it are untouched"
+ *
+ * Each record means all that were lent, also those never used.
+ */
+struct adapter_answer adapter_connect(uint8_t k, const uint8_t *old_sheet, size_t old_len, const uint8_t *new_sheet, size_t new_len,
+                                      struct adapter_situation *work, size_t work_len, uint8_t *plan, size_t plan_len);
+
+/*
+ * The state that a plan goes to from a state by a code: "the next state, or 0 with a refusal". The start is state 0. A plan ends where its
+ * length says, so plan_len is the `length` that connecting answered, and not how much was lent.
+ */
+struct adapter_step_answer adapter_step(const uint8_t *plan, size_t plan_len, uint16_t state, uint8_t code);
+
+/* Whether a client complies with a service: "yes or no, or gives refusals 1 to 9; client first, service second". */
+struct adapter_complies_answer adapter_complies(const uint8_t *client, size_t client_len, const uint8_t *service, size_t service_len);
+
+#if defined(__cplusplus) && __cplusplus >= 201103L
+#define ADAPTER_ASSERT static_assert
+#elif defined(__STDC_VERSION__) && __STDC_VERSION__ >= 201112L
+#define ADAPTER_ASSERT _Static_assert
+#endif
+#ifdef ADAPTER_ASSERT
+ADAPTER_ASSERT(sizeof(struct adapter_situation) == 208, "a record has 208 bytes");
+ADAPTER_ASSERT(sizeof(struct adapter_answer) == 16, "the answer of connecting has 16 bytes");
+ADAPTER_ASSERT(sizeof(struct adapter_step_answer) == 4, "the answer of stepping has 4 bytes");
+ADAPTER_ASSERT(sizeof(struct adapter_complies_answer) == 4, "the answer of the client check has 4 bytes");
+#undef ADAPTER_ASSERT
+#endif
+
+#ifdef __cplusplus
+}
+#endif
+
+#endif

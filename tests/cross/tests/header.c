@@ -1,0 +1,56 @@
+/* Prints the header's numbers, and how it lays out what is lent and answered: a name and its figures to a line. */
+#include <stddef.h>
+#include <stdio.h>
+
+#include "../../../include/adapter.h"
+
+#define NUMBER(name) printf("%s %ld\n", #name, (long)ADAPTER_##name)
+#define STRUCT(name) printf("%s %zu %zu\n", #name, sizeof(struct name), offsetof(struct { char first; struct name second; }, second))
+#define FIELD(name, field) printf("%s.%s %zu %zu\n", #name, #field, offsetof(struct name, field), sizeof((struct name *)0)->field)
+
+int main(void)
+{
+    NUMBER(LONGEST_SHEET);
+    NUMBER(MOST_SITUATIONS);
+    NUMBER(LONGEST_PLAN);
+
+    NUMBER(ACCEPTED);
+    NUMBER(LENGTH);
+    NUMBER(TRAILER);
+    NUMBER(INDEX);
+    NUMBER(ROW);
+    NUMBER(READY);
+    NUMBER(ACTION);
+    NUMBER(SUCCESSOR);
+    NUMBER(ROLE);
+    NUMBER(NAMES);
+    NUMBER(RANK);
+    NUMBER(CAPACITY);
+    NUMBER(NO_ADAPTER);
+    NUMBER(ROOM);
+    NUMBER(PLAN);
+    NUMBER(STATE);
+    NUMBER(MOVE);
+
+    STRUCT(adapter_situation);
+
+    STRUCT(adapter_answer);
+    FIELD(adapter_answer, number);
+    FIELD(adapter_answer, sheet);
+    FIELD(adapter_answer, state);
+    FIELD(adapter_answer, situations);
+    FIELD(adapter_answer, states);
+    FIELD(adapter_answer, rounds);
+    FIELD(adapter_answer, length);
+
+    STRUCT(adapter_step_answer);
+    FIELD(adapter_step_answer, number);
+    FIELD(adapter_step_answer, state);
+
+    STRUCT(adapter_complies_answer);
+    FIELD(adapter_complies_answer, number);
+    FIELD(adapter_complies_answer, sheet);
+    FIELD(adapter_complies_answer, state);
+    FIELD(adapter_complies_answer, yes);
+    return 0;
+}
