@@ -4,7 +4,7 @@ from pathlib import Path
 
 # the crate whose proofs/ has what walks share
 HOME = 'situations'
-SHARED = ('Logic', 'Walk', 'Lent', 'Rest', 'Front', 'LocalTable', 'Elements', 'Places')
+SHARED = ('Logic', 'Walk', 'Freed', 'Lent', 'Rest', 'Front', 'LocalTable', 'Elements', 'Places')
 
 
 def home_of(crate):

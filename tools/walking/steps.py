@@ -4,7 +4,7 @@ import sys
 from walking.code import items, operand_text, statements
 from walking.contracts import Value, source
 from walking.state import Local
-from walking.text import par, tupled
+from walking.text import listed, par, tupled
 
 # a part of the body makes at most so many calls: beyond, the prover may meet its limit of steps
 CALLS = 4
@@ -249,13 +249,24 @@ part-{n} {names}=
         proofs = [st.cells[k].proof for k, _, v in loop['vars'] if v.name != 'bool'] + [st.lists[p.name][1] for p, _ in loop['slices']] + [keys['inv']]
         return text + f'again ! Nearer At {loop["here"]} {tupled(parts + proofs)} ({keys.get("nearer", "omega arith")})'
 
+    def free(self, st):
+        """All locals are freed: they stand last in the context, the last one first."""
+        cells = [x for k in reversed(range(len(self.locals))) for x in (('cell', k), ('dies', k))]
+        others = [x for x in st.labels if x not in cells]
+        order = others + cells
+        moved = next(n for n in range(len(order) + 1) if order[:n] + [x for x in st.labels if x not in order[:n]] == order)
+        text = st.front(*order[:moved])
+        held = [(self.tyn(k), k, st.cells[k]) for k in range(len(self.locals))]
+        freed = listed(f'bare {t} l{k}' if c is None else f'held {t} l{k} ({c.val()})' for t, k, c in held)
+        st.labels = others
+        return text + f'released ! ({listed(self.entry(st, x) for x in others)}) ({freed}) $ '
+
     def leaves(self, st):
         proof, _, _ = self.page.take('return')
         c = self.cell(st, 0)
         text, close = self.close_tables(st)
         text += f'returns-within ! Ends refl (look ! {st.pos(("cell", 0))} refl) $ '
-        text += st.front(*[x for k in range(len(self.locals)) for x in (('cell', k), ('dies', k))])
-        text += ''.join('free1 ! $ ' if st.cells[k] is None else 'gone1 ! $ ' for k in range(len(self.locals))) + 'free0 ! $ '
+        text += self.free(st)
         unit = self.f.result.name == '()'
         args = ([] if unit else [par(c.term)]) + [st.lists[p.name][0] for p in self.f.refs if p.mut]
         args += ([] if unit or self.f.result.name == 'bool' else [par(c.proof)]) + [st.lists[p.name][1] for p in self.f.refs if p.mut]

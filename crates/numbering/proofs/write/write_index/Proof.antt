@@ -1,7 +1,8 @@
 -- `numbering::write::write_index` meets its contract: a walk of its code, written by tools/walk from walks/write/write_index.walk.
 -- Assumes nothing.
-use Rattle.situations.proofs.Logic.{_≡_, refl, subst, _∙_, WellFounded, InvImage·wf, ℕ, _<_, _≤_, _^_, _*_, _+_, _-_, arith, List, [], _∷_, lit<, length, Nat·lt-wfRel, URA, fullShare, Ty, named, erased, imm, mut, w8, w16, w32, w64, tyPtr, tyInt, tyBool, tyUnit, tyRef, Val, vunit, vint, SProp, ent, Lft, Share, GName, ftrue, flft, Memory, Routine, afterTurn, Heap, Env, Out, Wp, WpFn, Tables, afterSeq, afterBlock, atReturn, Atoms, Fun, tablesOf, givenOf, tables, Given, Item, Sq, runs, anyQ, atRet, ‵, _⊛_, ⋆, _$_, _∵_, !, qed, by, move, keep, split, join, fsplit, fjoin, feqI, suffices, done, look, init, store, forget, stop, hop, fld, from, load, lit, unit-lit, addr, and-then, no-more, land, of-opd, bin, assigns, assigns-last, first, blocks, loops, again, Below, exec, returns-within, enter, alloc1, alloc0, params1, pass1, pass0, free1, free0, agg, whole, sub, look-in, fmOf, WpFn-mono, owns, Is, pointee, RefT, sliceTy, sliceVal, MutSlice, ShrSlice, Room, slice-vals, mut-slice-tells, shr-slice-tells, uint-makes, uint-vals, uint-tells, u8, u16, usize, owned, nothing, plain, onEntry, Meets, tripleOf, Triple, entered, cited, says, needs, Stays, stay-none, stay-slice, stay-none-slice, walkOf, goes-none, goes-slice, goes-none-slice, Walks, ends-at, walked, walk-meets, yes}
-use Rattle.situations.proofs.Walk.{empty, full, less-fits, below, not-below, tests, gone1}
+use Rattle.situations.proofs.Logic.{_≡_, refl, subst, _∙_, WellFounded, InvImage·wf, ℕ, _<_, _≤_, _^_, _*_, _+_, _-_, arith, List, [], _∷_, lit<, ltb, length, Nat·lt-wfRel, URA, fullShare, Ty, named, erased, imm, mut, w8, w16, w32, w64, tyPtr, tyInt, tyBool, tyUnit, tyRef, Val, vunit, vint, vbool, SProp, ent, Lft, Share, GName, ftrue, flft, Memory, Routine, afterTurn, Heap, Env, Out, Wp, WpFn, Tables, afterSeq, afterBlock, atReturn, Atoms, Fun, tablesOf, givenOf, tables, Given, Item, Sq, runs, anyQ, atRet, ‵, _⊛_, ⋆, _$_, _∵_, !, qed, by, move, keep, split, join, fsplit, fjoin, feqI, suffices, done, look, init, store, forget, stop, hop, fld, from, load, lit, unit-lit, addr, and-then, no-more, land, of-opd, bin, assigns, assigns-last, first, blocks, loops, again, Below, exec, returns-within, enter, alloc1, alloc0, params1, pass1, pass0, agg, whole, sub, look-in, fmOf, WpFn-mono, owns, Is, pointee, RefT, sliceTy, sliceVal, MutSlice, ShrSlice, Room, slice-vals, mut-slice-tells, shr-slice-tells, uint-makes, uint-vals, uint-tells, u8, u16, usize, owned, nothing, plain, onEntry, Meets, tripleOf, Triple, entered, cited, says, needs, Stays, stay-none, stay-slice, stay-none-slice, walkOf, goes-none, goes-slice, goes-none-slice, Walks, ends-at, walked, walk-meets, yes}
+use Rattle.situations.proofs.Walk.{empty, full, less-fits, below, not-below, tests}
+use Rattle.situations.proofs.Freed.{bare, held, released}
 use Rattle.situations.proofs.Lent.{lentAt, share}
 use Rattle.situations.proofs.Rest.{restOf, withRest, rest-long, lend-rest, regain-rest}
 use denote.Struct.Laws as LL
@@ -144,7 +145,7 @@ module _ {M : Type 1} (𝓤 : URA M) (H : Heap 𝓤) (A : Atoms 𝓤) (W : Given
             forget ! 20 refl $ forget ! 18 refl $ forget ! 16 refl $ forget ! 14 refl $ forget ! 12 refl $ forget ! 10 refl $ forget ! 8 refl $ forget ! 6 refl $ forget ! 4 refl $ again ! Nearer At (row, (at, (p, (outs, (fits-row, (fits-at, (fits-p, (long-outs, (known))))))))) ((row + size), ((at + 4), ((p + 1), ((withRest at outs indexed), ((omega (arith, bytes-few work (needed .0) (needed .2) (measured-on work (needed .0) (needed .2) (subst (λ (m : ℕ). p < m) last-is less) s-is i-is (needed .1) y-is (known .measured) size-is))), ((omega (arith, index-at (needed .2) known .0, less, last-is, few-in-order (needed .0) (needed .2))), ((omega (arith, less, fits-last)), ((rest-long at outs indexed same-indexed ∙ long-outs), (index-next (needed .2) known (subst (λ (m : ℕ). p < m) last-is less) entry-is (state-row work (needed .0) (needed .2) (subst (λ (m : ℕ). p < m) last-is less) s-is i-is (needed .1) y-is size-is)))))))))) (omega (arith, less, last-is))))))))))))
             (λ over. exec ! (𝓣 .C) (𝓣 .Λ) En this-mir.t-6 (atRet En Ends) $
             assigns ! (of-opd ! (unit-lit !)) (from ! (stop !)) (init ! 38 refl (tt, tt)) $
-            returns-within ! Ends refl (look ! 38 refl) $ move ! (38 ∷ 39 ∷ 36 ∷ 37 ∷ 34 ∷ 35 ∷ 32 ∷ 33 ∷ 30 ∷ 31 ∷ 28 ∷ 29 ∷ 26 ∷ 27 ∷ 24 ∷ 25 ∷ 22 ∷ 23 ∷ 20 ∷ 21 ∷ 18 ∷ 19 ∷ 16 ∷ 17 ∷ 14 ∷ 15 ∷ 12 ∷ 13 ∷ 10 ∷ 11 ∷ 8 ∷ 9 ∷ 6 ∷ 7 ∷ 4 ∷ 5 ∷ []) $ gone1 ! $ gone1 ! $ free1 ! $ free1 ! $ gone1 ! $ gone1 ! $ gone1 ! $ gone1 ! $ gone1 ! $ free1 ! $ free1 ! $ gone1 ! $ free1 ! $ free1 ! $ free1 ! $ free1 ! $ free1 ! $ free1 ! $ free0 ! $ by ! (exits outs long-outs (index-written (needed .2) known (subst (λ (m : ℕ). m ≤ p) last-is over))))
+            returns-within ! Ends refl (look ! 38 refl) $ released ! (‵ (ShrSlice (named 0) κ-work Record-row.the-row .own (lentAt b-work o-work γ-work work) (s-work ∷ [])) ∷ ‵ (flft κ-work q-work) ∷ ‵ (MutSlice (named 1) κ-out u8 .own (lentAt b-out o-out γ-out outs) (s-out ∷ [])) ∷ ‵ (flft κ-out q-out) ∷ []) (held tyUnit l0 (vunit) ∷ held τ0 l1 (s-work) ∷ bare (tyInt w64) l2 ∷ bare (tyInt w16) l3 ∷ held τ1 l4 (s-out) ∷ held (tyInt w64) l5 (vint w64 last) ∷ held (tyInt w32) l6 (vint w32 row) ∷ held (tyInt w64) l7 (vint w64 at) ∷ held (tyInt w64) l8 (vint w64 p) ∷ bare Record-laws.mir l9 ∷ bare Record-laws.mir l10 ∷ held tyBool l11 (vbool (ltb p last)) ∷ bare tyUnit l12 ∷ bare tyPtr l13 ∷ bare (tyInt w64) l14 ∷ bare τ2 l15 ∷ bare τ3 l16 ∷ bare (tyInt w32) l17 ∷ []) $ by ! (exits outs long-outs (index-written (needed .2) known (subst (λ (m : ℕ). m ≤ p) last-is over))))
 
         turns : (t : State) → Sq W (At t) (runs (𝓣 .C) (𝓣 .Λ) En this-mir.turn-1 (anyQ (Turned t)))
         turns t = turn (t .0) (t .1 .0) (t .1 .1 .0) (t .1 .1 .1 .0) (t .1 .1 .1 .1 .0) (t .1 .1 .1 .1 .1 .0) (t .1 .1 .1 .1 .1 .1 .0) (t .1 .1 .1 .1 .1 .1 .1 .0) (t .1 .1 .1 .1 .1 .1 .1 .1)

@@ -1,7 +1,8 @@
 -- `numbering::write::write_rows` meets its contract: a walk of its code, written by tools/walk from walks/write/write_rows.walk.
 -- Assumes nothing.
-use Rattle.situations.proofs.Logic.{_≡_, refl, subst, _∙_, WellFounded, InvImage·wf, ℕ, _<_, _≤_, _^_, _+_, _-_, arith, List, [], _∷_, lit<, length, Nat·lt-wfRel, URA, fullShare, Ty, named, erased, imm, mut, w8, w16, w32, w64, tyPtr, tyInt, tyBool, tyRef, Val, vint, SProp, ent, Lft, Share, GName, ftrue, flft, Memory, Routine, afterTurn, Heap, Env, Out, Wp, WpFn, Tables, afterSeq, afterBlock, atReturn, Atoms, Fun, tablesOf, givenOf, tables, Given, Item, Sq, runs, anyQ, atRet, ‵, _⊛_, ⋆, _$_, _∵_, !, qed, by, move, keep, split, join, fsplit, fjoin, suffices, done, look, init, store, forget, stop, hop, fld, from, load, lit, addr, and-then, no-more, land, of-opd, bin, assigns, assigns-last, first, blocks, loops, again, Below, exec, returns-within, enter, alloc1, alloc0, params1, pass1, pass0, free1, free0, agg, whole, sub, look-in, fmOf, WpFn-mono, owns, Is, pointee, RefT, sliceTy, sliceVal, MutSlice, ShrSlice, Room, slice-vals, mut-slice-tells, shr-slice-tells, uint-makes, uint-vals, uint-tells, u8, u16, u32, usize, owned, nothing, plain, onEntry, Meets, tripleOf, Triple, entered, cited, says, needs, Stays, stay-none, stay-slice, stay-none-slice, walkOf, goes-none, goes-slice, goes-none-slice, Walks, ends-at, walked, walk-meets, yes}
-use Rattle.situations.proofs.Walk.{empty, full, less-fits, below, not-below, tests, gone1}
+use Rattle.situations.proofs.Logic.{_≡_, refl, subst, _∙_, WellFounded, InvImage·wf, ℕ, _<_, _≤_, _^_, _+_, _-_, arith, List, [], _∷_, lit<, length, Nat·lt-wfRel, URA, fullShare, Ty, named, erased, imm, mut, w8, w16, w32, w64, tyPtr, tyInt, tyBool, tyRef, Val, vint, SProp, ent, Lft, Share, GName, ftrue, flft, Memory, Routine, afterTurn, Heap, Env, Out, Wp, WpFn, Tables, afterSeq, afterBlock, atReturn, Atoms, Fun, tablesOf, givenOf, tables, Given, Item, Sq, runs, anyQ, atRet, ‵, _⊛_, ⋆, _$_, _∵_, !, qed, by, move, keep, split, join, fsplit, fjoin, suffices, done, look, init, store, forget, stop, hop, fld, from, load, lit, addr, and-then, no-more, land, of-opd, bin, assigns, assigns-last, first, blocks, loops, again, Below, exec, returns-within, enter, alloc1, alloc0, params1, pass1, pass0, agg, whole, sub, look-in, fmOf, WpFn-mono, owns, Is, pointee, RefT, sliceTy, sliceVal, MutSlice, ShrSlice, Room, slice-vals, mut-slice-tells, shr-slice-tells, uint-makes, uint-vals, uint-tells, u8, u16, u32, usize, owned, nothing, plain, onEntry, Meets, tripleOf, Triple, entered, cited, says, needs, Stays, stay-none, stay-slice, stay-none-slice, walkOf, goes-none, goes-slice, goes-none-slice, Walks, ends-at, walked, walk-meets, yes}
+use Rattle.situations.proofs.Walk.{empty, full, less-fits, below, not-below, tests}
+use Rattle.situations.proofs.Freed.{bare, held, released}
 use Rattle.situations.proofs.Lent.{lentAt, share}
 use Rattle.situations.proofs.Rest.{restOf, withRest, rest-long, lend-rest, regain-rest}
 use denote.Struct.Laws as LL
@@ -105,7 +106,7 @@ module _ {M : Type 1} (𝓤 : URA M) (H : Heap 𝓤) (A : Atoms 𝓤) (W : Given
           calls-offset-of 𝓤 H A W mem run at (fmOf 𝓤 H (W .laws) 𝓣) known-offset-of fits-at (bytes-few work (needed .0) (needed .2 .in-order) (known .measured))
           (and-then ! (load ! (from ! (stop !)) (look ! 23 refl)) (no-more !)) (λ answer fits-answer answer-is.
           land ! (from ! (stop !)) (init ! 34 refl (tt, record { fits = fits-answer })) $
-          returns-within ! Ends refl (look ! 34 refl) $ move ! (34 ∷ 35 ∷ 32 ∷ 33 ∷ 30 ∷ 31 ∷ 28 ∷ 29 ∷ 26 ∷ 27 ∷ 24 ∷ 25 ∷ 22 ∷ 23 ∷ 20 ∷ 21 ∷ 18 ∷ 19 ∷ 16 ∷ 17 ∷ 14 ∷ 15 ∷ 12 ∷ 13 ∷ 10 ∷ 11 ∷ 8 ∷ 9 ∷ 6 ∷ 7 ∷ 4 ∷ 5 ∷ []) $ gone1 ! $ free1 ! $ free1 ! $ free1 ! $ free1 ! $ free1 ! $ gone1 ! $ free1 ! $ free1 ! $ free1 ! $ free1 ! $ free1 ! $ free1 ! $ free1 ! $ free1 ! $ free1 ! $ free0 ! $ by ! (exits answer outs fits-answer long-outs (answer-is ∙ rows-written (needed .2 .in-order) known (subst (λ (m : ℕ). m ≤ p) last-is over) .0, rows-written (needed .2 .in-order) known (subst (λ (m : ℕ). m ≤ p) last-is over) .1)))
+          returns-within ! Ends refl (look ! 34 refl) $ released ! (‵ (ShrSlice (named 0) κ-work Record-row.the-row .own (lentAt b-work o-work γ-work work) (s-work ∷ [])) ∷ ‵ (flft κ-work q-work) ∷ ‵ (MutSlice (named 1) κ-out u8 .own (lentAt b-out o-out γ-out outs) (s-out ∷ [])) ∷ ‵ (flft κ-out q-out) ∷ []) (held (tyInt w32) l0 (vint w32 answer) ∷ bare τ0 l1 ∷ bare (tyInt w64) l2 ∷ bare (tyInt w16) l3 ∷ bare τ1 l4 ∷ bare (tyInt w64) l5 ∷ held (tyInt w64) l6 (vint w64 at) ∷ bare (tyInt w64) l7 ∷ bare Record-laws.mir l8 ∷ bare tyBool l9 ∷ bare (tyInt w64) l10 ∷ bare (tyInt w64) l11 ∷ bare tyPtr l12 ∷ bare (tyInt w64) l13 ∷ bare τ2 l14 ∷ bare τ3 l15 ∷ []) $ by ! (exits answer outs fits-answer long-outs (answer-is ∙ rows-written (needed .2 .in-order) known (subst (λ (m : ℕ). m ≤ p) last-is over) .0, rows-written (needed .2 .in-order) known (subst (λ (m : ℕ). m ≤ p) last-is over) .1)))
 
       module _ (last : ℕ) (fits-last : last < 2 ^ 64) (last-is : last ≡ states) where
         abbrev head : ℕ → ℕ → (List ℕ) → List (Item 𝓤)

@@ -1,7 +1,8 @@
 -- `stored::lent::count_records` meets its contract: a walk of its code, written by tools/walk from walks/lent/count_records.walk.
 -- Assumes nothing.
-use Rattle.situations.proofs.Logic.{_≡_, refl, WellFounded, InvImage·wf, ℕ, _<_, _≤_, _^_, _*_, _+_, _-_, arith, List, [], _∷_, lit<, length, Nat·lt-wfRel, URA, Ty, named, imm, w8, w64, tyInt, tyBool, tyRef, Val, vint, SProp, ent, emp, via, fst∗, Lft, Share, GName, ftrue, flft, Memory, Routine, afterTurn, Heap, Env, Out, Wp, WpFn, Tables, afterSeq, afterBlock, atReturn, Atoms, Fun, tablesOf, givenOf, tables, Given, Item, Sq, runs, anyQ, atRet, ‵, _⊛_, ⋆, _$_, _∵_, !, qed, by, move, keep, split, join, fsplit, fjoin, suffices, done, look, init, store, forget, stop, fld, from, load, lit, and-then, no-more, land, of-opd, bin, assigns, assigns-last, first, blocks, loops, again, Below, exec, returns-within, enter, alloc1, alloc0, params1, pass1, pass0, free1, free0, whole, sub, look-in, fmOf, WpFn-mono, owns, Is, pointee, RefT, sliceTy, sliceVal, ShrSlice, Room, slice-vals, shr-slice-tells, uint-makes, uint-vals, uint-tells, u8, usize, owned, nothing, plain, onEntry, Meets, tripleOf, Triple, entered, cited, says, Stays, stay-none, stay-none-slice, walkOf, goes-none, goes-none-slice, Walks, ends-at, walked, walk-meets, yes}
-use Rattle.situations.proofs.Walk.{empty, full, below, not-below, tests, gone1}
+use Rattle.situations.proofs.Logic.{_≡_, refl, WellFounded, InvImage·wf, ℕ, _<_, _≤_, _^_, _*_, _+_, _-_, arith, List, [], _∷_, lit<, ltb, length, Nat·lt-wfRel, URA, Ty, named, imm, w8, w64, tyInt, tyBool, tyRef, Val, vint, vbool, SProp, ent, emp, via, fst∗, Lft, Share, GName, ftrue, flft, Memory, Routine, afterTurn, Heap, Env, Out, Wp, WpFn, Tables, afterSeq, afterBlock, atReturn, Atoms, Fun, tablesOf, givenOf, tables, Given, Item, Sq, runs, anyQ, atRet, ‵, _⊛_, ⋆, _$_, _∵_, !, qed, by, move, keep, split, join, fsplit, fjoin, suffices, done, look, init, store, forget, stop, fld, from, load, lit, and-then, no-more, land, of-opd, bin, assigns, assigns-last, first, blocks, loops, again, Below, exec, returns-within, enter, alloc1, alloc0, params1, pass1, pass0, whole, sub, look-in, fmOf, WpFn-mono, owns, Is, pointee, RefT, sliceTy, sliceVal, ShrSlice, Room, slice-vals, shr-slice-tells, uint-makes, uint-vals, uint-tells, u8, usize, owned, nothing, plain, onEntry, Meets, tripleOf, Triple, entered, cited, says, Stays, stay-none, stay-none-slice, walkOf, goes-none, goes-none-slice, Walks, ends-at, walked, walk-meets, yes}
+use Rattle.situations.proofs.Walk.{empty, full, below, not-below, tests}
+use Rattle.situations.proofs.Freed.{bare, held, released}
 use Rattle.situations.proofs.Lent.{lentAt, share}
 use denote.Struct.Laws as LL
 use Rattle.stored.proofs.lent.count_records as this
@@ -96,7 +97,7 @@ module _ {M : Type 1} (𝓤 : URA M) (H : Heap 𝓤) (A : Atoms 𝓤) (W : Given
           forget ! 6 refl $ forget ! 4 refl $ forget ! 2 refl $ again ! Nearer At (found, (i, (fits-found, (fits-i, (known))))) (more, ((i + 1), (fits-more, ((let h : length work < 2 ^ 64 = room-work .0 in omega arith), (counting-onward value work known less y-is more-is))))) (omega arith)))))
           (λ over. exec ! (𝓣 .C) (𝓣 .Λ) En this-mir.t-4 (atRet En Ends) $
           assigns ! (of-opd ! (load ! (from ! (stop !)) (look ! 10 refl))) (from ! (stop !)) (init ! 16 refl (tt, record { fits = fits-found })) $
-          returns-within ! Ends refl (look ! 16 refl) $ move ! (16 ∷ 17 ∷ 14 ∷ 15 ∷ 12 ∷ 13 ∷ 10 ∷ 11 ∷ 8 ∷ 9 ∷ 6 ∷ 7 ∷ 4 ∷ 5 ∷ 2 ∷ 3 ∷ []) $ gone1 ! $ gone1 ! $ gone1 ! $ gone1 ! $ gone1 ! $ free1 ! $ gone1 ! $ gone1 ! $ free0 ! $ by ! (exits found fits-found (counting-ends value work known over)))
+          returns-within ! Ends refl (look ! 16 refl) $ released ! (‵ (ShrSlice (named 0) κ-work Record-row.the-row .own (lentAt b-work o-work γ-work work) (s-work ∷ [])) ∷ ‵ (flft κ-work q-work) ∷ []) (held (tyInt w64) l0 (vint w64 found) ∷ held τ0 l1 (s-work) ∷ held (tyInt w8) l2 (vint w8 value) ∷ held (tyInt w64) l3 (vint w64 found) ∷ held (tyInt w64) l4 (vint w64 i) ∷ bare Record-laws.mir l5 ∷ held (tyInt w64) l6 (vint w64 (length work)) ∷ held tyBool l7 (vbool (ltb i (length work))) ∷ []) $ by ! (exits found fits-found (counting-ends value work known over)))
 
       turns : (t : State) → Sq W (At t) (runs (𝓣 .C) (𝓣 .Λ) En this-mir.turn-1 (anyQ (Turned t)))
       turns t = turn (t .0) (t .1 .0) (t .1 .1 .0) (t .1 .1 .1 .0) (t .1 .1 .1 .1)

@@ -1,7 +1,8 @@
 -- `stored::pairs::connect_lent` meets its contract: a walk of its code, written by tools/walk from walks/pairs/connect_lent.walk.
 -- Assumes nothing.
-use Rattle.situations.proofs.Logic.{_≡_, refl, _∙_, ℕ, zero, _<_, _^_, List, [], _∷_, lit<, length, URA, fullShare, Ty, named, erased, imm, mut, w8, w64, tyInt, tyRef, Val, vint, SProp, ent, emp, via, fst∗, Lft, Share, GName, ftrue, flft, Memory, Routine, Heap, Env, WpFn, Tables, Atoms, Fun, tablesOf, givenOf, tables, Given, Sq, runs, atRet, ‵, _⊛_, ⋆, _$_, _∵_, !, qed, by, move, keep, split, join, fsplit, fjoin, suffices, done, look, init, forget, stop, hop, fld, from, load, lit, addr, and-then, no-more, land, assigns, returns-within, enter, alloc1, alloc0, params1, pass1, pass0, free1, free0, agg, whole, sub, look-in, fmOf, WpFn-mono, owns, Is, pointee, RefT, sliceTy, sliceVal, MutSlice, ShrSlice, Room, slice-vals, mut-slice-tells, shr-slice-tells, uint-makes, uint-vals, uint-tells, u8, owned, nothing, plain, onEntry, Meets, tripleOf, Triple, entered, cited, says, Stays, stay-none, stay-slice, stay-none-slice, walkOf, goes-none, goes-slice, goes-none-slice, Walks, ends-at, walked, walk-meets, yes}
-use Rattle.situations.proofs.Walk.{empty, full, gone1}
+use Rattle.situations.proofs.Logic.{_≡_, refl, _∙_, ℕ, zero, _<_, _^_, List, [], _∷_, lit<, length, URA, fullShare, Ty, named, erased, imm, mut, w8, w64, tyInt, tyRef, Val, vint, SProp, ent, emp, via, fst∗, Lft, Share, GName, ftrue, flft, Memory, Routine, Heap, Env, WpFn, Tables, Atoms, Fun, tablesOf, givenOf, tables, Given, Sq, runs, atRet, ‵, _⊛_, ⋆, _$_, _∵_, !, qed, by, move, keep, split, join, fsplit, fjoin, suffices, done, look, init, forget, stop, hop, fld, from, load, lit, addr, and-then, no-more, land, assigns, returns-within, enter, alloc1, alloc0, params1, pass1, pass0, agg, whole, sub, look-in, fmOf, WpFn-mono, owns, Is, pointee, RefT, sliceTy, sliceVal, MutSlice, ShrSlice, Room, slice-vals, mut-slice-tells, shr-slice-tells, uint-makes, uint-vals, uint-tells, u8, owned, nothing, plain, onEntry, Meets, tripleOf, Triple, entered, cited, says, Stays, stay-none, stay-slice, stay-none-slice, walkOf, goes-none, goes-slice, goes-none-slice, Walks, ends-at, walked, walk-meets, yes}
+use Rattle.situations.proofs.Walk.{empty, full}
+use Rattle.situations.proofs.Freed.{bare, held, released}
 use Rattle.situations.proofs.Lent.{lentAt, lend, regain, lend-shared, regain-shared, share}
 use denote.Struct.Laws as LL
 use Rattle.stored.proofs.pairs.connect_lent as this
@@ -108,7 +109,7 @@ module _ {M : Type 1} (𝓤 : URA M) (H : Heap 𝓤) (A : Atoms 𝓤) (W : Given
 
       part-6 : (answer : Answer) (left : List Record) (written : List ℕ) (is-answer : Is Answer-row.the-row answer (Answer-laws.lowered answer ∷ [])) (same-left : length left ≡ length work) (same-written : length written ≡ length plan) (said : record { answer = answerOf answer; plan = written; work = left } ≡ connectOf blank k (old) (new) (work) (plan)) (zeros : ℕ) (fits-zeros : zeros < 2 ^ 64) (zeros-are : zeros ≡ countOf 0 (left)) (sames : ℕ) (fits-sames : sames < 2 ^ 64) (sames-are : sames ≡ countOf 1 (left)) (given : Outcome) (is-given : Is Outcome-row.the-row given (Outcome-laws.lowered given ∷ [])) (given-is : given ≡ record { answer = answer; zero = zeros; same = sames }) → Sq W (‵ (ShrSlice (named 0) κ-old u8 .own (lentAt b-old o-old γ-old old) (s-old ∷ [])) ∷ ‵ (flft κ-old q-old) ∷ ‵ (ShrSlice (named 1) κ-new u8 .own (lentAt b-new o-new γ-new new) (s-new ∷ [])) ∷ ‵ (flft κ-new q-new) ∷ ‵ (MutSlice (named 2) κ-work Record-row.the-row .own (lentAt b-work o-work γ-work left) (s-work ∷ [])) ∷ ‵ (flft κ-work q-work) ∷ ‵ (MutSlice (named 3) κ-plan u8 .own (lentAt b-plan o-plan γ-plan written) (s-plan ∷ [])) ∷ ‵ (flft κ-plan q-plan) ∷ empty τ9 l16 (empty τ8 l15 (empty τ9 l14 (empty τ8 l13 (empty τ7 l12 (empty τ6 l11 (empty τ5 l10 (empty τ4 l9 (empty (tyInt w64) l8 (empty (tyInt w64) l7 (empty Answer-laws.mir l6 (empty τ3 l5 (empty τ2 l4 (empty τ1 l3 (empty τ0 l2 (empty (tyInt w8) l1 (full Outcome-laws.mir l0 (Outcome-laws.lowered given) ([])))))))))))))))))) (runs (𝓣 .C) (𝓣 .Λ) En this-mir.t-13 (atRet En Ends))
       part-6 answer left written is-answer same-left same-written said zeros fits-zeros zeros-are sames fits-sames sames-are given is-given given-is =
-          returns-within ! Ends refl (look ! 40 refl) $ move ! (40 ∷ 41 ∷ 38 ∷ 39 ∷ 36 ∷ 37 ∷ 34 ∷ 35 ∷ 32 ∷ 33 ∷ 30 ∷ 31 ∷ 28 ∷ 29 ∷ 26 ∷ 27 ∷ 24 ∷ 25 ∷ 22 ∷ 23 ∷ 20 ∷ 21 ∷ 18 ∷ 19 ∷ 16 ∷ 17 ∷ 14 ∷ 15 ∷ 12 ∷ 13 ∷ 10 ∷ 11 ∷ 8 ∷ 9 ∷ []) $ gone1 ! $ free1 ! $ free1 ! $ free1 ! $ free1 ! $ free1 ! $ free1 ! $ free1 ! $ free1 ! $ free1 ! $ free1 ! $ free1 ! $ free1 ! $ free1 ! $ free1 ! $ free1 ! $ free1 ! $ free0 ! $ by ! (exits given left written is-given (same-left ∙ refl) (same-written ∙ refl) (gives _ answer written left zeros sames given given-is said zeros-are sames-are))
+          returns-within ! Ends refl (look ! 40 refl) $ released ! (‵ (ShrSlice (named 0) κ-old u8 .own (lentAt b-old o-old γ-old old) (s-old ∷ [])) ∷ ‵ (flft κ-old q-old) ∷ ‵ (ShrSlice (named 1) κ-new u8 .own (lentAt b-new o-new γ-new new) (s-new ∷ [])) ∷ ‵ (flft κ-new q-new) ∷ ‵ (MutSlice (named 2) κ-work Record-row.the-row .own (lentAt b-work o-work γ-work left) (s-work ∷ [])) ∷ ‵ (flft κ-work q-work) ∷ ‵ (MutSlice (named 3) κ-plan u8 .own (lentAt b-plan o-plan γ-plan written) (s-plan ∷ [])) ∷ ‵ (flft κ-plan q-plan) ∷ []) (held Outcome-laws.mir l0 (Outcome-laws.lowered given) ∷ bare (tyInt w8) l1 ∷ bare τ0 l2 ∷ bare τ1 l3 ∷ bare τ2 l4 ∷ bare τ3 l5 ∷ bare Answer-laws.mir l6 ∷ bare (tyInt w64) l7 ∷ bare (tyInt w64) l8 ∷ bare τ4 l9 ∷ bare τ5 l10 ∷ bare τ6 l11 ∷ bare τ7 l12 ∷ bare τ8 l13 ∷ bare τ9 l14 ∷ bare τ8 l15 ∷ bare τ9 l16 ∷ []) $ by ! (exits given left written is-given (same-left ∙ refl) (same-written ∙ refl) (gives _ answer written left zeros sames given given-is said zeros-are sames-are))
 
       part-1 : Sq W (‵ (ShrSlice (named 0) κ-old u8 .own (lentAt b-old o-old γ-old old) (s-old ∷ [])) ∷ ‵ (flft κ-old q-old) ∷ ‵ (ShrSlice (named 1) κ-new u8 .own (lentAt b-new o-new γ-new new) (s-new ∷ [])) ∷ ‵ (flft κ-new q-new) ∷ ‵ (MutSlice (named 2) κ-work Record-row.the-row .own (lentAt b-work o-work γ-work work) (s-work ∷ [])) ∷ ‵ (flft κ-work q-work) ∷ ‵ (MutSlice (named 3) κ-plan u8 .own (lentAt b-plan o-plan γ-plan plan) (s-plan ∷ [])) ∷ ‵ (flft κ-plan q-plan) ∷ empty τ9 l16 (empty τ8 l15 (empty τ9 l14 (empty τ8 l13 (empty τ7 l12 (empty τ6 l11 (empty τ5 l10 (empty τ4 l9 (empty (tyInt w64) l8 (empty (tyInt w64) l7 (empty Answer-laws.mir l6 (full τ3 l5 (s-plan) (full τ2 l4 (s-work) (full τ1 l3 (s-new) (full τ0 l2 (s-old) (full (tyInt w8) l1 (vint w8 k) (empty Outcome-laws.mir l0 ([])))))))))))))))))) (runs (𝓣 .C) (𝓣 .Λ) En this-mir.t-1 (atRet En Ends))
       part-1 =

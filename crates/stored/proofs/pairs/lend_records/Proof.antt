@@ -1,7 +1,8 @@
 -- `stored::pairs::lend_records` meets its contract: a walk of its code, written by tools/walk from walks/pairs/lend_records.walk.
 -- Assumes nothing.
-use Rattle.situations.proofs.Logic.{_≡_, refl, subst, _∙_, ℕ, _<_, _≤_, _^_, List, [], _∷_, lit<, length, URA, fullShare, Ty, named, erased, imm, mut, w8, w64, tyInt, tyRef, tyArray, Val, vint, SProp, ent, Lft, Share, GName, ftrue, flft, Memory, Routine, Heap, Env, WpFn, Tables, Atoms, Fun, tablesOf, givenOf, tables, Given, Sq, runs, atRet, ‵, _⊛_, ⋆, _$_, _∵_, !, qed, by, move, keep, split, join, fsplit, fjoin, suffices, done, look, init, stop, hop, fld, from, load, addr, and-then, no-more, land, assigns, returns-within, enter, alloc1, alloc0, params1, pass1, pass0, free1, free0, agg, rep, whole, sub, look-in, fmOf, WpFn-mono, owns, Is, pointee, RefT, sliceTy, sliceVal, MutSlice, ShrSlice, Room, slice-vals, mut-slice-tells, shr-slice-tells, uint-makes, uint-vals, uint-tells, u8, usize, owned, nothing, plain, onEntry, Meets, tripleOf, Triple, entered, cited, says, needs, Stays, stay-none, stay-slice, stay-none-slice, walkOf, goes-none, goes-slice, goes-none-slice, Walks, ends-at, walked, walk-meets, yes}
-use Rattle.situations.proofs.Walk.{empty, full, gone1}
+use Rattle.situations.proofs.Logic.{_≡_, refl, subst, _∙_, ℕ, _<_, _≤_, _^_, List, [], _∷_, lit<, length, URA, fullShare, Ty, named, erased, imm, mut, w8, w64, tyInt, tyRef, tyArray, Val, vint, vptr, SProp, ent, Lft, Share, GName, ftrue, flft, Memory, Routine, Heap, Env, WpFn, Tables, Atoms, Fun, tablesOf, givenOf, tables, Given, Sq, runs, atRet, ‵, _⊛_, ⋆, _$_, _∵_, !, qed, by, move, keep, split, join, fsplit, fjoin, suffices, done, look, init, stop, hop, fld, from, load, addr, and-then, no-more, land, assigns, returns-within, enter, alloc1, alloc0, params1, pass1, pass0, agg, rep, whole, sub, look-in, fmOf, WpFn-mono, owns, Is, pointee, RefT, sliceTy, sliceVal, MutSlice, ShrSlice, Room, slice-vals, mut-slice-tells, shr-slice-tells, uint-makes, uint-vals, uint-tells, u8, usize, owned, nothing, plain, onEntry, Meets, tripleOf, Triple, entered, cited, says, needs, Stays, stay-none, stay-slice, stay-none-slice, walkOf, goes-none, goes-slice, goes-none-slice, Walks, ends-at, walked, walk-meets, yes}
+use Rattle.situations.proofs.Walk.{empty, full}
+use Rattle.situations.proofs.Freed.{bare, held, released}
 use Rattle.situations.proofs.Lent.{lentAt, lend, regain, share}
 use Rattle.situations.proofs.Front.{frontOf, withFront, lend-front, regain-front}
 use Rattle.situations.proofs.LocalTable.{array-fits, open-table, close-table}
@@ -110,7 +111,7 @@ module _ {M : Type 1} (𝓤 : URA M) (H : Heap 𝓤) (A : Atoms 𝓤) (W : Given
           calls-connect-lent 𝓤 H A W mem run k κ-old q-old (lentAt b-old o-old γ-old old) s-old κ-new q-new (lentAt b-new o-new γ-new new) s-new (ν-3-work ∷ []) fullShare (lentAt l7 0 δ-3-work (frontOf count work)) (sliceVal (l7, 0) count) (ν-3-plan ∷ []) fullShare (lentAt b-plan o-plan δ-3-plan plan) s-plan (fmOf 𝓤 H (W .laws) 𝓣) known-connect-lent fits-k
           (and-then ! (load ! (from ! (stop !)) (look ! 25 refl)) (and-then ! (load ! (from ! (stop !)) (look ! 23 refl)) (and-then ! (load ! (from ! (stop !)) (look ! 21 refl)) (and-then ! (load ! (from ! (stop !)) (look ! 10 refl)) (and-then ! (load ! (from ! (stop !)) (look ! 6 refl)) (no-more !)))))) (λ given left written is-given same-left same-written said.
           move ! (2 ∷ 7 ∷ 3 ∷ []) $ regain-front Record-row.the-row (ν-work ∷ []) fullShare γ-work l7 0 5000 count work long-work (needed) ! tt (named 0) ν-3-work δ-3-work left (move ! (4 ∷ 6 ∷ 5 ∷ []) $ regain ! tt u8 (named 2) κ-plan q-plan γ-plan b-plan o-plan (length plan) plan refl ν-3-plan δ-3-plan written room-plan same-written (move ! (7 ∷ 4 ∷ 6 ∷ 5 ∷ 0 ∷ 1 ∷ 2 ∷ 3 ∷ []) $ land ! (from ! (stop !)) (init ! 30 refl (LL.lawful Outcome-row.the-type Outcome-laws.the-laws 𝓤 H A W .typed given _ is-given .0)) $
-          move ! (6 ∷ 7 ∷ 8 ∷ []) $ close-table ! tt Record-row.the-row 5000 l7 ν-work γ-work (withFront count work left) (returns-within ! Ends refl (look ! 28 refl) $ move ! (28 ∷ 29 ∷ 26 ∷ 27 ∷ 24 ∷ 25 ∷ 22 ∷ 23 ∷ 20 ∷ 21 ∷ 18 ∷ 19 ∷ 16 ∷ 17 ∷ 0 ∷ 15 ∷ 13 ∷ 14 ∷ 11 ∷ 12 ∷ 9 ∷ 10 ∷ 7 ∷ 8 ∷ []) $ gone1 ! $ gone1 ! $ gone1 ! $ gone1 ! $ gone1 ! $ gone1 ! $ gone1 ! $ free1 ! $ gone1 ! $ gone1 ! $ gone1 ! $ gone1 ! $ free0 ! $ by ! (exits given written is-given (same-written ∙ refl) (subst (λ (t : List Record). Gives (connectOf blank k old new t plan) given written) (front-made count 5000 y work needed made-work is-before) said))))))))))))
+          move ! (6 ∷ 7 ∷ 8 ∷ []) $ close-table ! tt Record-row.the-row 5000 l7 ν-work γ-work (withFront count work left) (returns-within ! Ends refl (look ! 28 refl) $ move ! (1 ∷ 2 ∷ 3 ∷ 4 ∷ 5 ∷ 6 ∷ 7 ∷ 8 ∷ 9 ∷ 10 ∷ 11 ∷ 12 ∷ 13 ∷ 14 ∷ []) $ released ! (‵ (ShrSlice (named 0) κ-old u8 .own (lentAt b-old o-old γ-old old) (s-old ∷ [])) ∷ ‵ (flft κ-old q-old) ∷ ‵ (ShrSlice (named 1) κ-new u8 .own (lentAt b-new o-new γ-new new) (s-new ∷ [])) ∷ ‵ (flft κ-new q-new) ∷ ‵ (MutSlice (named 2) κ-plan u8 .own (lentAt b-plan o-plan γ-plan written) (s-plan ∷ [])) ∷ ‵ (flft κ-plan q-plan) ∷ []) (held Outcome-laws.mir l0 (Outcome-laws.lowered given) ∷ held (tyInt w8) l1 (vint w8 k) ∷ held τ0 l2 (s-old) ∷ held τ1 l3 (s-new) ∷ held (tyInt w64) l4 (vint w64 count) ∷ held τ2 l5 (s-plan) ∷ held Record-laws.mir l6 (Record-laws.lowered y) ∷ bare τ3 l7 ∷ held τ4 l8 (vptr l7 0) ∷ held τ5 l9 (sliceVal (l7, 0) count) ∷ held τ6 l10 (vptr b-plan o-plan) ∷ held τ7 l11 (s-plan) ∷ []) $ by ! (exits given written is-given (same-written ∙ refl) (subst (λ (t : List Record). Gives (connectOf blank k old new t plan) given written) (front-made count 5000 y work needed made-work is-before) said))))))))))))
 
     walk : ent 𝓤 (onEntry 𝓤 H A this.signature (κ-old, (κ-new, (κ-plan, tt))) (q-old, (q-new, (q-plan, tt))) args machine) (WpFn 𝓤 H (𝓣 .C) (𝓣 .Λ) this-code.function (vint w8 k ∷ s-old ∷ s-new ∷ vint w64 count ∷ s-plan ∷ []) Ends)
     walk =
