@@ -36,7 +36,7 @@ class Source:
         for m in re.finditer(r'^( *)(?:pub )?(?:extern "C" )?fn (\w+)\(([^)]*)\)(?: -> ([^\n{]+?))?\s*\n((?:\s+(?:requires|ensures)[^\n]*\n)*)', text, re.M):
             owner = [t for at, t in marks if at < m.start()]
             name = inside + (f'{owner[-1]}::{m.group(2)}' if m.group(1) and owner else m.group(2))
-            if 'pub ' in m.group(0).split('fn ')[0]:
+            if m.group(0).split('fn ')[0].strip() == 'pub':
                 self.public.add(name)
             params = []
             for p in filter(None, (p.strip() for p in m.group(3).split(','))):
