@@ -15,7 +15,7 @@ unfoldable pub before : Record
 before = record {
   at = record { buffer = record { counts = replicate 14 1 }; old = 1; new = 1 };
   packed = 1;
-  head = 1;
+  slot = 1;
   order = 1;
   mark = 1;
   number = 1;

@@ -102,7 +102,7 @@ fn singles_are(y: situations::Record, value: u16) -> bool
     let numbers = [
         y.at.old as u16,
         y.at.new as u16,
-        y.head,
+        y.slot,
         y.order,
         y.mark,
         y.number,

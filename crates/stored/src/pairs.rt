@@ -72,7 +72,7 @@ pub fn record_before() -> situations::Record
     situations::Record {
         at: at,
         packed: 1,
-        head: 1,
+        slot: 1,
         order: 1,
         mark: 1,
         number: 1,
