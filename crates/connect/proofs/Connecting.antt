@@ -27,7 +27,7 @@ use Rattle.situations.specs.declared.Record.{Record}
 use Rattle.table.specs.Masks.{Filled}
 use Rattle.situations.specs.Lists.{keysOf, linksOf, presentOf}
 use Rattle.situations.specs.Fresh.{Fresh}
-use Rattle.situations.proofs.Lists.{keys-length, links-length}
+use Rattle.situations.proofs.Lists.{keys-length}
 use Rattle.reached.specs.Reached.{countBy, ExploredWork}
 use Rattle.rounds.specs.Settled.{WorkTable}
 use Rattle.connect.specs.Answers.{answerOf, refusing, Writes}
@@ -146,7 +146,6 @@ module _ (k : ℕ) (old new : List ℕ) (limit count : ℕ) (ys ys′ : List Rec
               new-sheet = new-sheet;
               few = omega (arith, room .0);
               keys-room = omega (arith, keys-length ys′);
-              links-room = omega (arith, links-length ys′);
               marks-room = there;
               links-within = subst (λ (n : ℕ). LinksWithin n (linksOf ys′)) is-total (explored .links-within whole);
               keys-within = subst (λ (n : ℕ). KeysWithin σ τ n (keysOf ys′)) is-total (explored .keys-within whole);

@@ -23,7 +23,7 @@ use Rattle.situations.specs.declared.Record.{Record}
 use Rattle.situations.specs.Records.{blank}
 use Rattle.situations.specs.Lists.{keysOf, linksOf, marksOf, presentOf}
 use Rattle.situations.specs.Fresh.{Fresh}
-use Rattle.situations.proofs.Lists.{links-length, marks-length, marks-at, numbers-at, present-length}
+use Rattle.situations.proofs.Lists.{marks-length, marks-at, numbers-at}
 use Rattle.rounds.specs.Settled.{settledIn, WorkTable, SettledDone}
 use Rattle.rounds.specs.Work.{SettledWork}
 use Rattle.numbering.specs.Kept.{unlessMarked, keptLink, rowsIn, WorkLists, Shown}
@@ -89,12 +89,11 @@ kept-shown marks count (suc t) h = leads-some marks count t refl (omega arith) �
     go false = refl
 
 -- the masks that the rounds leave show the kept moves
-pub masks-shown : (links marks present : List ℕ) (count : ℕ) → LinksWithin count links → 3 * count ≤ length present → MasksLeft count links marks present
+pub masks-shown : (links marks present : List ℕ) (count : ℕ) → LinksWithin count links → MasksLeft count links marks present
     → Shown count links marks present
 unfolding keptLink
-masks-shown links marks present count within room left =
+masks-shown links marks present count within left =
     record {
-      room = room;
       low = λ i kind h k. left .low (3 * i + kind) (omega arith);
       shown =
           λ i kind j h k l.
@@ -137,12 +136,11 @@ module _ (k : ℕ) (old new : List ℕ) (count rounds : ℕ) (ys : List Record) 
             record {
               some-situation = some;
               few = table .few;
-              links-room = omega (arith, links-length ys′);
               marks-room = omega (arith, marks-length ys′);
               links-within = within;
               start-kept = start-mark ∙ kept;
             },
-            masks-shown (linksOf ys′) (marksOf ys′) (presentOf ys′) count within (omega (arith, present-length ys′)) left,
+            masks-shown (linksOf ys′) (marksOf ys′) (presentOf ys′) count within left,
             record {
               room = room;
               none =
