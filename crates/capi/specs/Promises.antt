@@ -8,10 +8,11 @@ use lib.ListN.{take}
 use lib.Dec.{T}
 use Rattle.model.specs.Contract.{Contract, has}
 use Rattle.model.specs.Sheet.{Sheet, good, readSheet, contractIn}
-use Rattle.model.specs.Plan.{held, rowsIn, stepRow, stepOf}
+use Rattle.model.specs.Plan.{rowsIn, stepOf}
 use Rattle.model.specs.Connect.{connectOf}
 use Rattle.model.specs.Client.{compliesOf}
-use Rattle.model.specs.Run.{begin, Attempt, rowAtRun, runFrom, streakFrom, Standstill}
+use Rattle.model.specs.Run.{begin, Attempt, rowAtRun, runFrom, mostAlone, Standstill}
+use Rattle.model.specs.Demands.{Follows}
 use Rattle.plan.specs.Step.{steppedOf}
 use Rattle.plan.specs.declared.Stepped.{Stepped}
 use Rattle.comply.specs.Answer.{complianceOf}
@@ -26,11 +27,12 @@ pub record RunsByAnswers (k : ℕ) (client old : List ℕ) (user new : Contract)
   -- at each attempt, what stepping answers is 0 and the row's next state if the row holds the code, else 16 and 0
   pub steps : (before after : List Attempt) (a : Attempt) → attempts ≡ before ++ a ∷ after
       → (answer : Stepped) → answer ≡ steppedOf (stepOf bytes (runFrom user new (rowsIn bytes) begin before .plan) (a .code))
-      → answer ≡ steppedOf (stepRow (held (rowAtRun user new (rowsIn bytes) (runFrom user new (rowsIn bytes) begin before)) (a .code)))
+      → Follows (rowAtRun user new (rowsIn bytes) (runFrom user new (rowsIn bytes) begin before)) (a .code) (record { number = answer .number; state = answer .state })
   -- where the client check of client and old contract answers yes, a standstill has the success mark
   pub no-standstill : (answer : Compliance) → answer ≡ complianceOf (compliesOf client old) → answer .number ≡ 0 → answer .yes ≡ true
       → (R S : ℕ) → Standstill user new (rowsIn bytes) (runFrom user new (rowsIn bytes) begin attempts) R S → T (has R 14)
-  pub few-alone : streakFrom user new (rowsIn bytes) begin 0 attempts ≤ 2 * k * new .n
+  -- at most 2 times k times n service-alone moves come in a row
+  pub few-alone : mostAlone user new (rowsIn bytes) attempts ≤ 2 * k * new .n
 
 -- Whatever connecting ensured of an accepting answer and of the lent plan, its first `length` bytes are a plan whose runs do not
 -- hang.

@@ -3,4 +3,3 @@ pub mod Pairs
 pub mod Listed
 pub mod Search
 pub mod Answer
-pub mod Meaning

@@ -10,7 +10,7 @@ use borrow.Author.Tests.{le-leb, lt-leb, ne-eqb, le-ltb}
 use Rattle.model.specs.Contract.{Contract}
 use Rattle.model.specs.Sheet.{readBoth, contractIn, plain}
 use Rattle.model.specs.Connect as model
-use Rattle.model.specs.Connect.{Outcome, refused, counted, connected, limitOf, ranked, outcomeOf, counts, Connected, connectOf}
+use Rattle.model.specs.Connect.{Outcome, refused, counted, connected, limitOf, ranked, outcomeOf, clears, Connected, connectOf}
 use Rattle.model.proofs.Connect.{Shape, cut-off, removed, too-long, fits, shape}
 use Rattle.model.proofs.Refusals.{only-elim, both-numbers}
 use Rattle.plan.specs.Front.{front}
@@ -27,9 +27,9 @@ number-is : (r : Answer) (a : model.Answer) → answerOf r ≡ a → r .number �
 unfolding answerOf
 number-is r a e = ap (λ (a : model.Answer). a .number) e
 
-not-counted : (number : ℕ) → 1 ≤ number → number ≤ 10 → counts number ≡ false
-unfolding counts
-not-counted number l h = rw (ne-eqb number 0 (λ e. omega arith), le-ltb 10 number h) refl
+not-cleared : (number : ℕ) → 1 ≤ number → number ≤ 10 → clears number ≡ false
+unfolding clears
+not-cleared number l h = rw (ne-eqb number 0 (λ e. omega arith), le-ltb 10 number h) refl
 
 -- ---- a refusal of the pair or of k, or none
 
@@ -45,7 +45,7 @@ module _ (old new : List ℕ) (k : ℕ) (pair : Pair) (is-pair : pair ≡ pairOf
         sheets = λ z. absurd (omega (arith, n .0));
         good = λ z. absurd (omega (arith, n .0));
         bad = λ _ records room. ap (ranked k records room) read ∙ ap (λ (a : model.Answer). record { answer = a; bytes = [] }) (sym a);
-        uncounted = λ _. not-counted (r .number) (omega (arith, n .0)) (omega (arith, n .1));
+        uncleared = λ _. not-cleared (r .number) (omega (arith, n .0)) (omega (arith, n .1));
       }
 
   module _ (is-good : pair ≡ P.Good) where
@@ -60,7 +60,7 @@ module _ (old new : List ℕ) (k : ℕ) (pair : Pair) (is-pair : pair ≡ pairOf
               λ _ records room.
               ap (ranked k records room) (good-both 0 0 old new pair is-pair is-good)
               ∙ rw (lt-leb k 3 high) (ap (λ (a : model.Answer). record { answer = a; bytes = [] }) (sym a));
-          uncounted = λ _. not-counted (r .number) (omega arith) (omega arith);
+          uncleared = λ _. not-cleared (r .number) (omega arith) (omega arith);
         }
 
     pub good-checked : k ≤ 3 → answerOf r ≡ refusing 0 0 0 → Checked k old new r
@@ -73,16 +73,16 @@ module _ (old new : List ℕ) (k : ℕ) (pair : Pair) (is-pair : pair ≡ pairOf
           sheets = λ _. (sheets .0, sheets .1, low);
           good = λ _ records room. ap (ranked k records room) read ∙ rw (le-leb k 3 low) refl;
           bad = λ n. absurd (n e);
-          uncounted = λ n. absurd (n e);
+          uncleared = λ n. absurd (n e);
         }
 
 -- ---- the whole outcome
 
-connected-counts : (k : ℕ) (σ τ : Contract) (limit room : ℕ) → counts (connected k σ τ limit room .answer .number) ≡ true
-unfolding counts refused counted plain
-connected-counts k σ τ limit room = go (shape k σ τ limit room)
+connected-clears : (k : ℕ) (σ τ : Contract) (limit room : ℕ) → clears (connected k σ τ limit room .answer .number) ≡ true
+unfolding clears refused counted plain
+connected-clears k σ τ limit room = go (shape k σ τ limit room)
   where
-    go : Shape k σ τ limit room → counts (connected k σ τ limit room .answer .number) ≡ true
+    go : Shape k σ τ limit room → clears (connected k σ τ limit room .answer .number) ≡ true
     go (cut-off n e) = rw e refl
     go (removed w n e) = rw e refl
     go (too-long w m l e) = rw e refl
@@ -102,7 +102,7 @@ module _ (k : ℕ) (old new : List ℕ) (work : List Record) (plan : List ℕ) w
       record {
         answer = o .answer;
         plan = o .bytes ++ drop (length (o .bytes)) plan;
-        work = cond (counts (o .answer .number)) (map (λ r. blank) work) work;
+        work = cond (clears (o .answer .number)) (map (λ r. blank) work) work;
       }
 
   is-whole : whole (outcomeOf (length work) (length plan) k old new) ≡ connectOf blank k old new work plan
@@ -114,7 +114,7 @@ module _ (k : ℕ) (old new : List ℕ) (work : List Record) (plan : List ℕ) w
       → record { answer = answerOf r; plan = plan; work = work } ≡ connectOf blank k old new work plan
   unfolding answerOf
   connect-refused {r} c n =
-      let kept : work ≡ cond (counts (r .number)) (map (λ r. blank) work) work = rw (c .uncounted n) refl in
+      let kept : work ≡ cond (clears (r .number)) (map (λ r. blank) work) work = rw (c .uncleared n) refl in
       (λ i. record { answer = answerOf r; plan = plan; work = kept i })
       ∙ ap whole (sym (c .bad n (length work) (length plan))) ∙ is-whole
 
@@ -128,7 +128,7 @@ module _ (k : ℕ) (old new : List ℕ) (work : List Record) (plan : List ℕ) w
       let σ = contractIn old in
       let τ = contractIn new in
       let o = connected k σ τ (limitOf (length work)) (length plan) in
-      let zero : work′ ≡ cond (counts (o .answer .number)) (map (λ r. blank) work) work =
-      rw (connected-counts k σ τ (limitOf (length work)) (length plan)) (is-cleared ∙ cleared-same between work long) in
+      let zero : work′ ≡ cond (clears (o .answer .number)) (map (λ r. blank) work) work =
+      rw (connected-clears k σ τ (limitOf (length work)) (length plan)) (is-cleared ∙ cleared-same between work long) in
       (λ i. record { answer = w .answer i; plan = w .written i; work = zero i })
       ∙ ap whole (sym (c .good e (length work) (length plan))) ∙ is-whole

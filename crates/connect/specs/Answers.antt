@@ -6,7 +6,7 @@ use mathlib.Core.List.{List, []}
 use Prim.Native.Nat.{ℕ, _≤_}
 use Rattle.model.specs.Sheet.{contractIn}
 use Rattle.model.specs.Connect as model
-use Rattle.model.specs.Connect.{Outcome, connected, limitOf, outcomeOf, counts}
+use Rattle.model.specs.Connect.{Outcome, connected, limitOf, outcomeOf, clears}
 use Rattle.sheet.specs.Whole.{IsSheet}
 use Rattle.plan.specs.Front.{front}
 use Rattle.connect.specs.declared.Answer.{Answer}
@@ -39,9 +39,9 @@ pub record Writes (o : Outcome) (r : Answer) (plan plan′ : List ℕ) : Type 0 
   pub written : plan′ ≡ front (o .bytes) plan
 
 -- What the check of the sheets, of the pair and of k answers: the number 0, and what follows is the outcome; or a refusal, which is the
--- outcome already and says that no situation was counted.
+-- outcome already and leaves the records as they were.
 pub record Checked (k : ℕ) (old new : List ℕ) (r : Answer) : Type 0 where
   pub sheets : r .number ≡ 0 → IsSheet old × IsSheet new × (k ≤ 3)
   pub good : r .number ≡ 0 → (records room : ℕ) → outcomeOf records room k old new ≡ connected k (contractIn old) (contractIn new) (limitOf records) room
   pub bad : (r .number ≡ 0 → ⊥) → (records room : ℕ) → outcomeOf records room k old new ≡ record { answer = answerOf r; bytes = [] }
-  pub uncounted : (r .number ≡ 0 → ⊥) → counts (r .number) ≡ false
+  pub uncleared : (r .number ≡ 0 → ⊥) → clears (r .number) ≡ false

@@ -1,4 +1,4 @@
--- What follows the search, over the numbers of situations in the work lists.
+-- What follows the search, over the numbers of situations in the lists that the fields of the records make.
 -- Assumes nothing.
 use mathlib.Core.Bool.{cond}
 use mathlib.Core.List.{List, []}

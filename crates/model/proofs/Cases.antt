@@ -13,13 +13,13 @@ use Rattle.model.specs.Test.{listed, covered, covers, hope, answered, te
 use Rattle.model.specs.Search.{member, add, addAll, search, searchFrom}
 use Rattle.model.specs.Rounds.{onward, stays, within, movesInto, round, settle, settled}
 use Rattle.model.specs.Plan.{planStates, target, rowOf, planRows, moveBytes, rowBytes, rowsBytes, indexBytes, planBytes}
-use Rattle.model.specs.Connect.{Answer, Connected, refused, counted, settledOf, rowsFor, emitted, related, found, connected, limitOf, ranked, outcomeOf, counts, connectOf}
+use Rattle.model.specs.Connect.{Answer, Connected, refused, counted, settledOf, rowsFor, emitted, related, found, connected, limitOf, ranked, outcomeOf, clears, connectOf}
 use Rattle.model.specs.Cases.{Figures, Case, cases, m1-plan, take-a-2, external-2}
 
 -- what connecting answers for two sheets, with 16 records and 128 bytes of 0xFF lent
-unfoldable pub answerOf : (k : ℕ) → (old new : List ℕ) → Connected ℕ
-unfolding any all keep place upto byte word dword le16 le32 actions takes name partner has nowhere state offersIn offers offeredBelow after check then trailer strayBit masksFrom successorsFrom rowWith rowAt statesFrom goodTrailer readSheet inPlace plain readBoth start alike sameList same kindOf codes raised lowered bufferAfter offered oldAfter newAfter withBuffer nextBy next listed covered covers hope answered test member add addAll search searchFrom onward stays within movesInto round settle settled planStates target rowOf planRows moveBytes rowBytes rowsBytes indexBytes planBytes refused counted settledOf rowsFor emitted related found connected limitOf ranked outcomeOf counts connectOf
-answerOf k old new = connectOf 0 k old new (replicate 16 7) (replicate 128 0xFF)
+unfoldable pub connectCase : (k : ℕ) → (old new : List ℕ) → Connected ℕ
+unfolding any all keep place upto byte word dword le16 le32 actions takes name partner has nowhere state offersIn offers offeredBelow after check then trailer strayBit masksFrom successorsFrom rowWith rowAt statesFrom goodTrailer readSheet inPlace plain readBoth start alike sameList same kindOf codes raised lowered bufferAfter offered oldAfter newAfter withBuffer nextBy next listed covered covers hope answered test member add addAll search searchFrom onward stays within movesInto round settle settled planStates target rowOf planRows moveBytes rowBytes rowsBytes indexBytes planBytes refused counted settledOf rowsFor emitted related found connected limitOf ranked outcomeOf clears connectOf
+connectCase k old new = connectOf 0 k old new (replicate 16 7) (replicate 128 0xFF)
 
 -- the figures of an answer
 unfoldable pub figures : Answer → Figures
@@ -27,8 +27,8 @@ figures a = record { number = a .number; situations = a .situations; states = a 
 
 -- what the definitions say of a row of the table
 unfoldable pub computed : Case → Figures
-unfolding answerOf figures
-computed c = figures (answerOf (c .k) (c .old) (c .new) .answer)
+unfolding connectCase figures
+computed c = figures (connectCase (c .k) (c .old) (c .new) .answer)
 
 -- two functions that agree along a list agree at each of its elements
 pub agree-at : {A B : Type 0} (f g : A → B) {a : A} {l : List A} → List·Memᴰ a l → map f l ≡ map g l → f a ≡ g a
@@ -44,6 +44,6 @@ pub cases-hold : (c : Case) → List·Memᴰ c cases → computed c ≡ c .says
 cases-hold c m = agree-at computed (λ (c : Case). c .says) m along
 
 -- M1's plan, byte for byte, with the rest of the lent plan as it was
-pub m1-emitted : answerOf 0 take-a-2 external-2 .plan ≡ m1-plan ++ replicate 107 0xFF
-unfolding answerOf
+pub m1-emitted : connectCase 0 take-a-2 external-2 .plan ≡ m1-plan ++ replicate 107 0xFF
+unfolding connectCase
 m1-emitted = refl

@@ -5,7 +5,7 @@ use mathlib.Core.Path.{_≡_, refl, sym, ap, subst, subst⁻¹, _∙_}
 use mathlib.Core.Bool.{_&&_}
 use mathlib.Core.Logic.{_≢_, _↔_, inl, inr, _⊎_}
 use mathlib.Core.Option.{Option, some, Option·some-injective}
-use mathlib.Core.List.{List, [], _∷_, _++_, append-nil, nil≢cons, List·Memᴰ, List·Memᴰ·head, List·Memᴰ·tail, Memᴰ·of-map}
+use mathlib.Core.List.{List, [], _∷_, _++_, append-nil, nil≢cons, List·Memᴰ, List·Memᴰ·head, List·Memᴰ·tail, Memᴰ·cast, Memᴰ·of-map}
 use Prim.Native.Nat.{ℕ, _+_, _*_, _≤_, _<_}
 use native.Mathlib.Omega.{arith}
 use lib.ListN.{length, getD, getElem?, length-append, length-map}
@@ -14,19 +14,19 @@ use Rattle.model.specs.Lists.{Distinct, all}
 use Rattle.model.specs.Contract.{Contract}
 use Rattle.model.specs.Situation.{Situation, start, alike, same, kindOf, codes, next}
 use Rattle.model.specs.Test.{test}
-use Rattle.model.specs.Search.{at-start, by-move, Search, member, searchFrom}
-use Rattle.model.specs.Rounds.{Settled}
+use Rattle.model.specs.Search.{Reached, at-start, by-move, Search, member, searchFrom}
+use Rattle.model.specs.Rounds.{Settled, within}
 use Rattle.model.specs.Plan.{Move, held, planStates, rowOf, planRows, moveBytes, rowBytes, rowsBytes, planBytes, namedBelow, ascending, goodRow, readPlan, rowsOf, rowsIn}
 use Rattle.model.specs.Sheet.{plain}
 use Rattle.model.specs.Connect.{Outcome, refused, counted, settledOf, rowsFor, emitted, related, found, connected}
-use Rattle.model.specs.Demands.{Exceed, ReachedCount, Related, HoldsLargest}
+use Rattle.model.specs.Demands.{Exceed, ReachedCount, Related, IsKept, kept-start, kept-move, HoldsLargest}
 use Rattle.model.proofs.Lists.{and-both, dec-T, cond-yes, cond-no}
 use Rattle.model.proofs.Rounds.{member-intro, member-elim, moves-intro, settled-from}
 use Rattle.model.proofs.Search.{Inv, search-inv, search-all, search-cut, search-few, pigeons}
 use Rattle.model.proofs.Situation.{is-same}
 use Rattle.model.proofs.Weak.{is-reached, kept-is-largest, largest-is-kept, rounds-few}
 use Rattle.model.proofs.Sheet.{WellFormed}
-use Rattle.model.proofs.PlanRows.{at-mem, state-kept, row-elim, row-intro, row-at, start-first, states-distinct, mem-at}
+use Rattle.model.proofs.PlanRows.{at-mem, within-elim, state-found, state-kept, state-closed, row-elim, row-intro, row-at, start-first, states-distinct, mem-at}
 use Rattle.model.proofs.PlanBytes.{length-moves, plan-read-back}
 use Rattle.model.proofs.PlanEmitted.{emitted-row}
 
@@ -212,13 +212,29 @@ module _ (k : ℕ) (σ τ : Contract) (limit : ℕ) where
             subst (λ (t : Situation). getElem? states (w .0) ≡ some t) q (v .3),
           )
 
+      -- the plan's states are the situations reached by kept moves
+      state-is-kept : {s : Situation} → Reached codes (within same nx (left .kept)) start s → IsKept k σ τ s
+      unfolding settledOf
+      state-is-kept (at-start e) = kept-start e
+      state-is-kept (by-move {s = s} {t = t} code m x r) =
+          let w = within-elim same is-same codes nx (left .kept) s code t x in
+          kept-move code m (w .0) (kept-is-largest (alike k) σ τ limit whole t (w .1)) (state-is-kept r)
+
+      kept-is-state : {s : Situation} → IsKept k σ τ s → List·Memᴰ s states
+      unfolding settledOf
+      kept-is-state (kept-start e) = Memᴰ·cast e (at-mem states 0 start (start-first same is-same codes nx (left .kept) start begun))
+      kept-is-state (kept-move {s = s} {t = t} code m x r from) =
+          let here = kept-is-state from in
+          let reached-t = by-move code m x (is-reached (alike k) σ τ limit whole s (state-reached s here)) in
+          state-closed same is-same codes nx (left .kept) start begun s t code here m x (largest-is-kept (alike k) σ τ limit whole t reached-t r)
+
       pub holds-largest : HoldsLargest k σ τ bytes
       holds-largest =
           record {
             states = states;
             first = start-first same is-same codes nx (left .kept) start begun;
             distinct = states-distinct same is-same codes nx (left .kept) start begun;
-            reached = λ s m. is-reached (alike k) σ τ limit whole s (state-reached s m);
+            kept = λ s. ((λ m. state-is-kept (state-found same is-same codes nx (left .kept) start begun s m)), kept-is-state);
             rows = ap length emitted-rows ∙ rows-states;
             only = only-largest;
             every = every-largest;

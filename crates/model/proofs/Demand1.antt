@@ -7,14 +7,14 @@ use mathlib.Core.Option.{Option, none, some}
 use mathlib.Core.List.{List, [], _++_, map}
 use Prim.Native.Nat.{ℕ, _+_, _≤_, _<_}
 use native.Mathlib.Omega.{arith}
-use lib.ListN.{length, getD, drop}
+use lib.ListN.{length, getD, drop, length-append, length-drop}
 use lib.Seq.{drop-append-seam}
 use lib.Dec.{eqb, ltb, leb}
 use borrow.Author.Tests.{lt-ltb, le-ltb, eq-eqb, ne-eqb}
 use Rattle.model.specs.Contract.{Contract}
 use Rattle.model.specs.Sheet.{Reading, good, refusal, Refusal, plain, Both, readBoth}
 use Rattle.model.specs.Plan.{held, Plan, readPlan, stepRow, stepIn, stepOf}
-use Rattle.model.specs.Connect.{Outcome, refused, counted, connected, limitOf, ranked, outcomeOf, counts, connectOf}
+use Rattle.model.specs.Connect.{Outcome, refused, counted, connected, limitOf, ranked, outcomeOf, clears, connectOf}
 use Rattle.model.specs.Client.{complies, compliesIn, compliesOf}
 use Rattle.model.specs.Demands.{Answers, Steps, Demand-1, number}
 use Rattle.model.proofs.Refusals.{Only, both-numbers}
@@ -25,25 +25,28 @@ record Sound (room : ℕ) (o : Outcome) : Type 0 where
   table : o .answer .number ≤ 13
   written : o .answer .length ≡ length (o .bytes)
   nothing : (o .answer .number ≡ 0 → ⊥) → o .bytes ≡ []
+  uncounted : 1 ≤ o .answer .number → o .answer .number ≤ 11 → (o .answer .situations ≡ 0) × (o .answer .states ≡ 0) × (o .answer .rounds ≡ 0)
   within : length (o .bytes) ≤ room
 
 sound-refused : (room : ℕ) (r : Refusal) → r .number ≤ 13 → Sound room (refused r)
 unfolding refused
-sound-refused room r h = record { table = h; written = refl; nothing = λ n. refl; within = omega arith }
+sound-refused room r h =
+    record { table = h; written = refl; nothing = λ n. refl; uncounted = λ l m. (refl, refl, refl); within = omega arith }
 
-sound-counted : (room number situations states rounds : ℕ) → number ≤ 13 → Sound room (counted number situations states rounds [])
+sound-counted : (room number situations states rounds : ℕ) → 11 < number → number ≤ 13 → Sound room (counted number situations states rounds [])
 unfolding counted
-sound-counted room number situations states rounds h = record { table = h; written = refl; nothing = λ n. refl; within = omega arith }
+sound-counted room number situations states rounds l h =
+    record { table = h; written = refl; nothing = λ n. refl; uncounted = λ _ m. absurd (omega arith); within = omega arith }
 
 sound-connected : (k : ℕ) (σ τ : Contract) (limit room : ℕ) → Sound room (connected k σ τ limit room)
 sound-connected k σ τ limit room = go (shape k σ τ limit room)
   where
     go : Shape k σ τ limit room → Sound room (connected k σ τ limit room)
     go (cut-off n e) = rw e (sound-refused room (plain 11 0) (unfold plain in omega arith))
-    go (removed w n e) = rw e (sound-counted room 12 _ _ _ (omega arith))
-    go (too-long w m l e) = rw e (sound-counted room 13 _ _ _ (omega arith))
+    go (removed w n e) = rw e (sound-counted room 12 _ _ _ (omega arith) (omega arith))
+    go (too-long w m l e) = rw e (sound-counted room 13 _ _ _ (omega arith) (omega arith))
     go (fits w m l e) =
-        rw e (unfold counted in record { table = omega arith; written = refl; nothing = λ n. absurd (n refl); within = l })
+        rw e (unfold counted in record { table = omega arith; written = refl; nothing = λ n. absurd (n refl); uncounted = λ l m. absurd (omega arith); within = l })
 
 sound-ranked : (k records room : ℕ) (r : Reading Refusal Both) → Only (λ (r : Refusal). (1 ≤ r .number) × (r .number ≤ 9)) r → Sound room (ranked k records room r)
 unfolding ranked
@@ -66,11 +69,16 @@ module _ {R : Type 0} (blank : R) (k : ℕ) (old new : List ℕ) (work : List R)
   sound = sound-outcome (length work) (length plan) k old new
 
   connect-answers : Answers blank work plan (connectOf blank k old new work plan)
-  unfolding connectOf counts
+  unfolding connectOf clears
   connect-answers =
       record {
         number = sound .table;
         refused = λ n. (sound .written ∙ ap length (sound .nothing n), ap (λ (w : List ℕ). w ++ drop (length w) plan) (sound .nothing n));
+        uncounted = sound .uncounted;
+        size =
+            length-append (o .bytes) (drop (length (o .bytes)) plan)
+            ∙ ap (λ (n : ℕ). length (o .bytes) + n) (length-drop (length (o .bytes)) plan)
+            ∙ omega (arith, sound .within);
         beyond = (
           omega (arith, sound .written, sound .within),
           subst⁻¹ (λ (m : ℕ). drop m (o .bytes ++ drop (length (o .bytes)) plan) ≡ drop m plan) (sound .written) (drop-append-seam (o .bytes) (drop (length (o .bytes)) plan)),

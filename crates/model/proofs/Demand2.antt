@@ -85,6 +85,8 @@ module _ {R : Type 0} (blank : R) (k : ℕ) (old new : List ℕ) (sheets : Both)
           situations = λ no. absurd (no is-11);
           rounds = subst⁻¹ (λ (x : Answer). x .rounds ≤ x .situations) q (omega arith);
           states = λ z. absurd (omega (arith, is-11, z));
+          no-states = λ z. absurd (omega (arith, is-11, z));
+          real = λ z. absurd (omega (arith, is-11, z));
           emitted = λ z. absurd (omega (arith, is-11, z));
         }
 
@@ -103,6 +105,8 @@ module _ {R : Type 0} (blank : R) (k : ℕ) (old new : List ℕ) (sheets : Both)
           situations = λ _. subst⁻¹ (λ (x : Answer). ReachedCount k σ τ (x .situations)) q (whole-count k σ τ limit w);
           rounds = subst⁻¹ (λ (x : Answer). x .rounds ≤ x .situations) q (rounds-within k σ τ limit w);
           states = λ z. absurd (omega (arith, is-12, z));
+          no-states = λ z. ap (λ (x : Answer). x .states) q;
+          real = λ z. absurd (omega (arith, is-12, z));
           emitted = λ z. absurd (omega (arith, is-12, z));
         }
 
@@ -130,6 +134,27 @@ module _ {R : Type 0} (blank : R) (k : ℕ) (old new : List ℕ) (sheets : Both)
             let q = answer-is p (counted 13 (length (search .done)) (length (rowsFor k σ τ kept)) (settledOf k σ τ (search .done) .rounds) []) e in
             ap (λ (x : Answer). x .number) q
         short p h (fits _ _ l e) = absurd (omega arith)
+
+    -- the counts of an acceptance
+    counts-kept : search .todo ≡ [] → List·Memᴰ start kept → (p : List ℕ) → number blank k old new sheets work p ≡ 0
+        → (outcome blank k old new sheets work p .answer .situations ≡ length (search .done))
+        × (outcome blank k old new sheets work p .answer .states ≡ length (rowsFor k σ τ kept))
+        × (outcome blank k old new sheets work p .answer .rounds ≡ settledOf k σ τ (search .done) .rounds)
+    unfolding counted
+    counts-kept w m p z = go (shape k σ τ limit (length p))
+      where
+        go : Shape k σ τ limit (length p)
+            → (outcome blank k old new sheets work p .answer .situations ≡ length (search .done))
+            × (outcome blank k old new sheets work p .answer .states ≡ length (rowsFor k σ τ kept))
+            × (outcome blank k old new sheets work p .answer .rounds ≡ settledOf k σ τ (search .done) .rounds)
+        go (cut-off n e) = absurd (n w)
+        go (removed _ n e) = absurd (n m)
+        go (too-long _ _ l e) =
+            let q = answer-is p (counted 13 (length (search .done)) (length (rowsFor k σ τ kept)) (settledOf k σ τ (search .done) .rounds) []) e in
+            absurd (omega (arith, z, ap (λ (x : Answer). x .number) q))
+        go (fits _ _ l e) =
+            let q = answer-is p (counted 0 (length (search .done)) (length (rowsFor k σ τ kept)) (settledOf k σ τ (search .done) .rounds) bytes) e in
+            (ap (λ (x : Answer). x .situations) q, ap (λ (x : Answer). x .states) q, ap (λ (x : Answer). x .rounds) q)
 
     decides-kept : (last : ℕ) (emitted : List ℕ) → search .todo ≡ [] → List·Memᴰ start kept → (last ≡ 0) ⊎ (last ≡ 13)
         → connected k σ τ limit (length plan) ≡ counted last (length (search .done)) (length (rowsFor k σ τ kept)) (settledOf k σ τ (search .done) .rounds) emitted
@@ -161,6 +186,10 @@ module _ {R : Type 0} (blank : R) (k : ℕ) (old new : List ℕ) (sheets : Both)
           states = λ z.
               ap (λ (x : Answer). x .states) q
               ∙ sym (ap (λ (b : List ℕ). length (rowsIn b)) (plan-is z) ∙ ap length (emitted-rows k σ τ limit w m (formed .0) (formed .1) (formed .2) (a .rank) (limit-few (length work))));
+          no-states = λ z. absurd (not-12 z);
+          real = λ z p zero-p.
+              let other = counts-kept w m p zero-p in
+              (ap (λ (x : Answer). x .situations) q ∙ sym (other .0), ap (λ (x : Answer). x .states) q ∙ sym (other .1), ap (λ (x : Answer). x .rounds) q ∙ sym (other .2));
           emitted = λ z.
               subst⁻¹ (HoldsLargest k σ τ) (plan-is z) (holds-largest k σ τ limit w m (formed .0) (formed .1) (formed .2) (a .rank) (limit-few (length work)));
         }

@@ -1,9 +1,8 @@
 -- Demand 3: acceptance gives two well-formed contracts and a plan whose bytes read back as its rows, so what holds of a run over
 -- the rows holds of the bytes.
 -- Assumes nothing.
-use mathlib.Core.Path.{_≡_, refl, sym, ap, subst, subst⁻¹, _∙_}
-use mathlib.Core.Bool.{Bool, true, false, cond, false≢true}
-use mathlib.Core.Logic.{_≢_}
+use mathlib.Core.Path.{_≡_, refl, sym, ap, subst⁻¹, _∙_}
+use mathlib.Core.Bool.{Bool, true, false, cond}
 use mathlib.Core.Option.{some}
 use mathlib.Core.List.{List, [], List·Memᴰ}
 use Prim.Native.Nat.{ℕ, _*_, _≤_, _<_}
@@ -12,23 +11,23 @@ use lib.ListN.{length}
 use lib.Dec.{T, leb}
 use borrow.Author.Tests.{lt-ltb, leb-true}
 use Rattle.model.specs.Contract.{Contract, has}
-use Rattle.model.specs.Sheet.{Reading, good, refusal, Sheet, Refusal, plain, Both, readSheet, readBoth, sheetOf, contractIn}
+use Rattle.model.specs.Sheet.{Reading, good, refusal, Sheet, Refusal, plain, Both, readBoth, contractIn}
 use Rattle.model.specs.Situation.{Situation, start, alike, same, codes, next}
 use Rattle.model.specs.Test.{test}
 use Rattle.model.specs.Search.{searchFrom}
 use Rattle.model.specs.Plan.{Move, held, planStates, planBytes, readPlan, rowsIn, stepRow, stepIn, stepOf}
 use Rattle.model.specs.Connect.{Outcome, refused, counted, settledOf, rowsFor, connected, limitOf, ranked, outcomeOf, connectOf}
-use Rattle.model.specs.Client.{Complies, complies, compliesIn, compliesOf}
-use Rattle.model.specs.Run.{Run, begin, Attempt, rowAtRun, runFrom, streakFrom, Standstill}
-use Rattle.model.specs.Demands.{emittedPlan, Admitted, IsReached, number, Runs, Demand-3}
+use Rattle.model.specs.Client.{Complies}
+use Rattle.model.specs.Run.{Run, begin, Attempt, rowAtRun, runFrom, mostAlone, Standstill}
+use Rattle.model.specs.Demands.{emittedPlan, Admitted, IsReached, number, Follows, Runs, Demand-3}
 use Rattle.model.proofs.Rounds.{Closed, settled-closed, settled-from}
 use Rattle.model.proofs.Situation.{is-same}
 use Rattle.model.proofs.Test.{PassesAt, is-test}
 use Rattle.model.proofs.Weak.{is-reached, rank-reached}
-use Rattle.model.proofs.Sheet.{WellFormed, both-elim, both-well-formed, good-injective}
+use Rattle.model.proofs.Sheet.{WellFormed, both-elim, both-well-formed}
 use Rattle.model.proofs.Refusals.{Only, both-numbers}
 use Rattle.model.proofs.PlanRows.{mem-at}
-use Rattle.model.proofs.Client.{complies-sound}
+use Rattle.model.proofs.ClientCheck.{contract-read}
 use Rattle.model.proofs.Bound.{allowed-alike}
 use Rattle.model.proofs.Run.{Tied, tied-begin, tied-run, no-standstill, few-alone}
 use Rattle.model.proofs.Connect.{Shape, cut-off, removed, too-long, fits, shape, emitted-reads, emitted-rows, rows-states}
@@ -74,33 +73,7 @@ accepted records room k old new = go (readBoth 0 0 old new) refl (both-numbers 0
     go (refusal r) e o z = absurd (omega (arith, o .0))
     go (good sheets) e o z = at-rank sheets e (leb k 3) refl z
 
--- what a yes of the client check gives
-says-yes : (client service : List ℕ) → compliesOf client service .yes ≡ true
-    → (w : Both) × (readBoth 1 0 client service ≡ good w) × T (complies (w .one) (w .two))
-unfolding compliesOf compliesIn
-says-yes client service = go (readBoth 1 0 client service) refl
-  where
-    go : (r : Reading Refusal Both) → readBoth 1 0 client service ≡ r → compliesIn r .yes ≡ true
-        → (w : Both) × (readBoth 1 0 client service ≡ good w) × T (complies (w .one) (w .two))
-    go (refusal r) e z = absurd (false≢true z)
-    go (good w) e z = (w, e, rw z tt)
-
--- the contract of a sheet that is read
-contract-read : (b : List ℕ) (s : Sheet) → readSheet b ≡ good s → contractIn b ≡ s .contract
-unfolding contractIn sheetOf
-contract-read b s e = ap (λ (r : Reading _ Sheet). sheetOf r .contract) e
-
-client-complies : (client old : List ℕ) (user : Sheet) (σ : Contract) → readSheet client ≡ good user → contractIn old ≡ σ
-    → compliesOf client old .yes ≡ true → Complies (user .contract) σ
-client-complies client old user σ read is-old says =
-    let w = says-yes client old says in
-    let b = both-elim 1 0 client old (w .0) (w .1) in
-    let f = both-well-formed 1 0 client old (w .0) (w .1) in
-    let one : w .0 .one ≡ user .contract = b .is-one ∙ ap (λ (s : Sheet). s .contract) (good-injective (sym (b .read₁) ∙ read)) in
-    let two : w .0 .two ≡ σ = b .is-two ∙ sym (contract-read old (b .sheet₂) (b .read₂)) ∙ is-old in
-    subst (λ (c : Contract). Complies c σ) one (subst (λ (c : Contract). Complies (w .0 .one) c) two (complies-sound (w .0 .one) (w .0 .two) (f .0) (f .1) (w .2)))
-
-module _ (k limit : ℕ) (limit-ok : limit ≤ 4096) (room : ℕ) (old new : List ℕ) (c : Accepted k limit room old new) (client : List ℕ) (user : Sheet) (read : readSheet client ≡ good user)
+module _ (k limit : ℕ) (limit-ok : limit ≤ 4096) (room : ℕ) (old new : List ℕ) (c : Accepted k limit room old new) (user : Contract)
     (attempts : List Attempt) where
   abbrev σ : Contract
   σ = c .sheets .one
@@ -138,17 +111,16 @@ module _ (k limit : ℕ) (limit-ok : limit ≤ 4096) (room : ℕ) (old new : Lis
   kept-closed = settled-closed same is-same codes (next (alike k) σ τ) (test σ τ) (PassesAt σ τ) (is-test σ τ) found
 
   abbrev runOver : List (List Move) → List Attempt → Run
-  runOver rs l = runFrom (user .contract) τ rs begin l
+  runOver rs l = runFrom user τ rs begin l
 
-  tied : (l : List Attempt) → Tied (alike k) (user .contract) σ τ kept (c .begun) (runOver rows l)
+  tied : (l : List Attempt) → Tied (alike k) user σ τ kept (c .begun) (runOver rows l)
   unfolding rowsFor
-  tied l = tied-run (alike k) (user .contract) σ τ kept (c .begun) l begin (tied-begin (alike k) (user .contract) σ τ kept (c .begun))
+  tied l = tied-run (alike k) user σ τ kept (c .begun) l begin (tied-begin (alike k) user σ τ kept (c .begun))
 
   -- stepping the emitted bytes at the run's plan state follows the row
-  step-follows : (l : List Attempt) (code : ℕ)
-      → stepOf bytes (runOver rows l .plan) code ≡ stepRow (held (rowAtRun (user .contract) τ rows (runOver rows l)) code)
+  step-is : (l : List Attempt) (code : ℕ) → stepOf bytes (runOver rows l .plan) code ≡ stepRow (held (rowAtRun user τ rows (runOver rows l)) code)
   unfolding stepOf stepIn rowAtRun
-  step-follows l code =
+  step-is l code =
       let d = tied l in
       let below : runOver rows l .plan < length rows =
       omega (
@@ -158,30 +130,35 @@ module _ (k limit : ℕ) (limit-ok : limit ≤ 4096) (room : ℕ) (old new : Lis
       ) in
       rw (reads-back, lt-ltb (runOver rows l .plan) (length rows) below) refl
 
-  run-stands : (compliesOf client old .number ≡ 0) × (compliesOf client old .yes ≡ true)
-      → (R S : ℕ) → Standstill (user .contract) τ rows (runOver rows attempts) R S → T (has R 14)
-  unfolding rowsFor
-  run-stands says =
-      let b = both-elim 0 0 old new (c .sheets) (c .admitted .reads) in
-      let is-old : contractIn old ≡ σ = contract-read old (b .sheet₁) (b .read₁) ∙ sym (b .is-one) in
-      no-standstill (alike k) (user .contract) σ τ kept (c .begun) kept-closed (client-complies client old user σ read is-old (says .1)) (runOver rows attempts) (tied attempts)
+  step-follows : (l : List Attempt) (code : ℕ) → Follows (rowAtRun user τ rows (runOver rows l)) code (stepOf bytes (runOver rows l .plan) code)
+  unfolding stepRow
+  step-follows l code =
+      record {
+        goes = λ to e. step-is l code ∙ ap stepRow e;
+        stays = λ e. step-is l code ∙ ap stepRow e;
+      }
 
-  run-alone : streakFrom (user .contract) τ rows begin 0 attempts ≤ 2 * k * τ .n
+  run-stands : Complies user σ → (R S : ℕ) → Standstill user τ rows (runOver rows attempts) R S → T (has R 14)
+  unfolding rowsFor
+  run-stands complies =
+      no-standstill (alike k) user σ τ kept (c .begun) kept-closed complies (runOver rows attempts) (tied attempts)
+
+  run-alone : mostAlone user τ rows attempts ≤ 2 * k * τ .n
   unfolding rowsFor
   run-alone =
       rw (← allowed-alike (τ .n) k (formed .1 .few-names))
-      (few-alone (alike k) (user .contract) σ τ kept (c .begun) (τ .n) (formed .1 .few-names)
+      (few-alone (alike k) user σ τ kept (c .begun) (τ .n) (formed .1 .few-names)
       (λ s m. rank-reached (alike k) σ τ (kept-reached s m)) (formed .1 .named) attempts)
 
-  runs : Runs k client old (user .contract) τ bytes attempts
+  runs : Runs k user σ τ bytes attempts
   runs =
       record {
         steps = λ before after a e.
-            subst⁻¹ (λ (rs : List (List Move)). stepOf bytes (runOver rs before .plan) (a .code) ≡ stepRow (held (rowAtRun (user .contract) τ rs (runOver rs before)) (a .code)))
+            subst⁻¹ (λ (rs : List (List Move)). Follows (rowAtRun user τ rs (runOver rs before)) (a .code) (stepOf bytes (runOver rs before .plan) (a .code)))
             rows-back (step-follows before (a .code));
-        no-standstill = λ says R S.
-            subst⁻¹ (λ (rs : List (List Move)). Standstill (user .contract) τ rs (runOver rs attempts) R S → T (has R 14)) rows-back (run-stands says R S);
-        few-alone = subst⁻¹ (λ (rs : List (List Move)). streakFrom (user .contract) τ rs begin 0 attempts ≤ 2 * k * τ .n) rows-back run-alone;
+        no-standstill = λ complies R S.
+            subst⁻¹ (λ (rs : List (List Move)). Standstill user τ rs (runOver rs attempts) R S → T (has R 14)) rows-back (run-stands complies R S);
+        few-alone = subst⁻¹ (λ (rs : List (List Move)). mostAlone user τ rs attempts ≤ 2 * k * τ .n) rows-back run-alone;
       }
 
 pub demand-3 : Demand-3
@@ -189,8 +166,10 @@ unfolding connectOf
 demand-3 R blank k old new work plan client user attempts z read =
     let c = accepted (length work) (length plan) k old new z in
     let b = both-elim 0 0 old new (c .sheets) (c .admitted .reads) in
+    let is-old : contractIn old ≡ c .sheets .one = contract-read old (b .sheet₁) (b .read₁) ∙ sym (b .is-one) in
     let is-new : contractIn new ≡ c .sheets .two = contract-read new (b .sheet₂) (b .read₂) ∙ sym (b .is-two) in
     let emits = emitted-is blank k old new (c .sheets) work (c .admitted) plan (c .situations) (c .states) (c .rounds) (c .emits) in
-    subst⁻¹ (λ (n : Contract). Runs k client old (user .contract) n (emittedPlan (connectOf blank k old new work plan)) attempts) is-new
-    (subst⁻¹ (λ (b : List ℕ). Runs k client old (user .contract) (c .sheets .two) b attempts) emits
-    (runs k (limitOf (length work)) (limit-few (length work)) (length plan) old new c client user read attempts))
+    subst⁻¹ (λ (o : Contract). Runs k (user .contract) o (contractIn new) (emittedPlan (connectOf blank k old new work plan)) attempts) is-old
+    (subst⁻¹ (λ (n : Contract). Runs k (user .contract) (c .sheets .one) n (emittedPlan (connectOf blank k old new work plan)) attempts) is-new
+    (subst⁻¹ (λ (b : List ℕ). Runs k (user .contract) (c .sheets .one) (c .sheets .two) b attempts) emits
+    (runs k (limitOf (length work)) (limit-few (length work)) (length plan) old new c (user .contract) attempts)))

@@ -16,6 +16,7 @@ pub mod PlanEmitted
 pub mod Bound
 pub mod Cases
 pub mod Client
+pub mod ClientCheck
 pub mod Run
 pub mod Refusals
 pub mod Connect

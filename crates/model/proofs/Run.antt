@@ -16,7 +16,7 @@ use Rattle.model.specs.Situation.{Situation, Kind, straight, client, ser
 use Rattle.model.specs.Test.{listed}
 use Rattle.model.specs.Plan.{Move, held, planStates, rowOf, planRows}
 use Rattle.model.specs.Client.{Meet, met-first, met-on, Complies}
-use Rattle.model.specs.Run.{Run, begin, Attempt, need, isAlone, streakOver, rowAtRun, choice, moveTo, moved, movedIf, attempted, runFrom, streakFrom, Standstill}
+use Rattle.model.specs.Run.{Run, begin, Attempt, need, isAlone, ifMove, longest, rowAtRun, choice, moveTo, moved, movedIf, attempted, runFrom, alonesFrom, mostAlone, Standstill}
 use Rattle.model.specs.Weak.{Rank}
 use Rattle.model.proofs.Lists.{and-both, and-of, cond-some}
 use Rattle.model.proofs.Rounds.{Step, Closed, moves-intro}
@@ -226,15 +226,15 @@ module _ (limits : List ℕ) (user old new : Contract) (kept : List Situation) (
         subst (λ (t : Situation). leftAt d ≡ suc (left n limits (t .buffer))) q (uses (d .at) t (a .code) (w .0) l (rank-tied r d) (w .1 .1))
 
     streak-allowed : (attempts : List Attempt) (r : Run) (d : Tied r) (before : ℕ) → before + leftAt d ≤ allowed n limits
-        → streakFrom user new rows r before attempts ≤ allowed n limits
-    unfolding streakFrom attempted movedIf streakOver
+        → longest before (alonesFrom user new rows r attempts) ≤ allowed n limits
+    unfolding alonesFrom attempted movedIf ifMove longest
     streak-allowed [] r d before h = omega arith
     streak-allowed (a ∷ attempts) r d before h =
         go (moveTo user new rows r a) (isAlone (kindOf (a .code))) refl refl (λ r d before h. streak-allowed attempts r d before h)
       where
         go : (o : Option ℕ) (b : Bool) → moveTo user new rows r a ≡ o → isAlone (kindOf (a .code)) ≡ b
-            → ((r : Run) (d : Tied r) (before : ℕ) → before + leftAt d ≤ allowed n limits → streakFrom user new rows r before attempts ≤ allowed n limits)
-            → streakOver o b before (λ count. streakFrom user new rows (movedIf user new rows r (kindOf (a .code)) o) count attempts) ≤ allowed n limits
+            → ((r : Run) (d : Tied r) (before : ℕ) → before + leftAt d ≤ allowed n limits → longest before (alonesFrom user new rows r attempts) ≤ allowed n limits)
+            → longest before (ifMove o b (alonesFrom user new rows (movedIf user new rows r (kindOf (a .code)) o) attempts)) ≤ allowed n limits
         go none b e f ih = ih r d before h
         go (some to) true e f ih =
             let m = is-move r a to e in
@@ -242,10 +242,11 @@ module _ (limits : List ℕ) (user old new : Contract) (kept : List Situation) (
             ih (moved user new rows r (kindOf (a .code)) to) d′ (suc before) (omega (arith, uses-run r d a to d′ m (rw f tt)))
         go (some to) false e f ih =
             let d′ = tied-moved r a to d (is-move r a to e) in
-            let z : streakFrom user new rows (moved user new rows r (kindOf (a .code)) to) 0 attempts ≤ allowed n limits =
+            let z : longest 0 (alonesFrom user new rows (moved user new rows r (kindOf (a .code)) to) attempts) ≤ allowed n limits =
             ih (moved user new rows r (kindOf (a .code)) to) d′ 0 (omega (arith, left-allowed n limits (d′ .at .buffer) (rank-tied _ d′))) in
             omega arith
 
-    pub few-alone : (attempts : List Attempt) → streakFrom user new rows begin 0 attempts ≤ allowed n limits
+    pub few-alone : (attempts : List Attempt) → mostAlone user new rows attempts ≤ allowed n limits
+    unfolding mostAlone
     few-alone attempts =
         streak-allowed attempts begin tied-begin 0 (omega (arith, left-allowed n limits (tied-begin .at .buffer) (rank-tied begin tied-begin)))

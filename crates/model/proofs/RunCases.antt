@@ -12,11 +12,12 @@ use Rattle.model.specs.Contract.{Contract, has}
 use Rattle.model.specs.Sheet.{good, readSheet, sheetOf, contractIn}
 use Rattle.model.specs.Plan.{Move, held, readMoves, namedBelow, ascending, goodRow, readRows, readWith, readPlan, rowsOf, rowsIn}
 use Rattle.model.specs.Client.{samePair, firstPair, agree, meetOn, pairs, agreeAt, complies, compliesIn, compliesOf}
-use Rattle.model.specs.Run.{Run, begin, Attempt, need, isAlone, streakOver, rowAtRun, choice, moveTo, moved, movedIf, attempted, runFrom, streakFrom, Standstill}
+use Rattle.model.specs.Run.{Run, begin, Attempt, need, isAlone, ifMove, longest, rowAtRun, choice, moveTo, moved, movedIf, attempted, runFrom, alonesFrom, mostAlone, Standstill}
 use Rattle.model.specs.Demands.{emittedPlan, Runs}
 use Rattle.model.specs.RunCases.{Choice, RunFigures, RunCase, runs}
-use Rattle.model.proofs.Cases.{answerOf, agree-at}
+use Rattle.model.proofs.Cases.{connectCase, agree-at}
 use Rattle.model.proofs.Standstill.{choicesOf, noneMade, standstillsOf, standstill-decided}
+use Rattle.model.proofs.ClientCheck.{yes-complies}
 use Rattle.model.proofs.Demand3.{demand-3}
 
 -- the client, the new service, and the rows of the emitted plan at its answered length
@@ -27,18 +28,18 @@ abbrev service : RunCase → Contract
 service c = contractIn (c .new)
 
 abbrev rows : RunCase → List (List Move)
-rows c = rowsIn (emittedPlan (answerOf (c .k) (c .old) (c .new)))
+rows c = rowsIn (emittedPlan (connectCase (c .k) (c .old) (c .new)))
 
 -- the run after a list of attempts, and the most service-alone moves in a row
 abbrev runOf : RunCase → List Attempt → Run
 runOf c attempts = runFrom (user c) (service c) (rows c) begin attempts
 
 abbrev aloneOf : RunCase → List Attempt → ℕ
-aloneOf c attempts = streakFrom (user c) (service c) (rows c) begin 0 attempts
+aloneOf c attempts = mostAlone (user c) (service c) (rows c) attempts
 
 -- what the definitions say of a row of the list
 unfoldable pub computedRun : RunCase → RunFigures
-unfolding answerOf sheetOf contractIn held readMoves namedBelow ascending goodRow readRows readWith readPlan rowsOf rowsIn samePair firstPair agree meetOn pairs agreeAt complies compliesIn compliesOf begin need isAlone streakOver rowAtRun choice moveTo moved movedIf attempted runFrom streakFrom choicesOf noneMade standstillsOf
+unfolding connectCase sheetOf contractIn held readMoves namedBelow ascending goodRow readRows readWith readPlan rowsOf rowsIn samePair firstPair agree meetOn pairs agreeAt complies compliesIn compliesOf begin need isAlone ifMove longest rowAtRun choice moveTo moved movedIf attempted runFrom alonesFrom mostAlone choicesOf noneMade standstillsOf
 computedRun c =
     record {
       complies = compliesOf (c .client) (c .old) .yes;
@@ -53,8 +54,8 @@ unfolding runs computedRun
 along = refl
 
 -- each pair is accepted
-connects : map (λ (c : RunCase). answerOf (c .k) (c .old) (c .new) .answer .number) runs ≡ map (λ (c : RunCase). 0) runs
-unfolding runs answerOf
+connects : map (λ (c : RunCase). connectCase (c .k) (c .old) (c .new) .answer .number) runs ≡ map (λ (c : RunCase). 0) runs
+unfolding runs connectCase
 connects = refl
 
 -- each client is checked with the old contract, and its bytes are a sheet
@@ -68,7 +69,7 @@ reads = refl
 
 -- what a row says is what the definitions say
 pub record RunHolds (c : RunCase) : Type 0 where
-  pub accepted : answerOf (c .k) (c .old) (c .new) .answer .number ≡ 0
+  pub accepted : connectCase (c .k) (c .old) (c .new) .answer .number ≡ 0
   -- "if the client complies with the old contract"
   pub checked : compliesOf (c .client) (c .old) .number ≡ 0
   pub complies : compliesOf (c .client) (c .old) .yes ≡ c .says .complies
@@ -86,16 +87,16 @@ pub record RunHolds (c : RunCase) : Type 0 where
       → Standstill (user c) (service c) (rows c) (runOf c (c .attempts)) R S ↔ List·Memᴰ (record { R = R; S = S }) (c .says .standstills)
 
 -- what demand 3 says of a row's pair and client
-demanded : (c : RunCase) → answerOf (c .k) (c .old) (c .new) .answer .number ≡ 0 → readSheet (c .client) ≡ good (sheetOf (readSheet (c .client)))
+demanded : (c : RunCase) → connectCase (c .k) (c .old) (c .new) .answer .number ≡ 0 → readSheet (c .client) ≡ good (sheetOf (readSheet (c .client)))
     → (attempts : List Attempt)
-    → Runs (c .k) (c .client) (c .old) (user c) (service c) (emittedPlan (answerOf (c .k) (c .old) (c .new))) attempts
-unfolding answerOf contractIn
+    → Runs (c .k) (user c) (contractIn (c .old)) (service c) (emittedPlan (connectCase (c .k) (c .old) (c .new))) attempts
+unfolding connectCase contractIn
 demanded c z read attempts =
     demand-3 ℕ 0 (c .k) (c .old) (c .new) (replicate 16 7) (replicate 128 0xFF) (c .client) (sheetOf (readSheet (c .client))) attempts z read
 
 -- the bound that demand 3 states is 2 times k times n
 stated : (c : RunCase) (attempts : List Attempt)
-    → Runs (c .k) (c .client) (c .old) (user c) (service c) (emittedPlan (answerOf (c .k) (c .old) (c .new))) attempts
+    → Runs (c .k) (user c) (contractIn (c .old)) (service c) (emittedPlan (connectCase (c .k) (c .old) (c .new))) attempts
     → aloneOf c attempts ≤ 2 * c .k * service c .n
 stated c attempts runs = runs .few-alone
 
@@ -104,7 +105,7 @@ pub runs-hold : (c : RunCase) → List·Memᴰ c runs → RunHolds c
 unfolding computedRun
 runs-hold c m =
     let says = agree-at computedRun (λ (c : RunCase). c .says) m along in
-    let z = agree-at (λ (c : RunCase). answerOf (c .k) (c .old) (c .new) .answer .number) (λ (c : RunCase). 0) m connects in
+    let z = agree-at (λ (c : RunCase). connectCase (c .k) (c .old) (c .new) .answer .number) (λ (c : RunCase). 0) m connects in
     let answered = agree-at (λ (c : RunCase). compliesOf (c .client) (c .old) .number) (λ (c : RunCase). 0) m answers in
     let read = agree-at (λ (c : RunCase). readSheet (c .client)) (λ (c : RunCase). good (sheetOf (readSheet (c .client)))) m reads in
     record {
@@ -115,7 +116,8 @@ runs-hold c m =
       alone = ap (λ (f : RunFigures). f .alone) says;
       few = λ attempts.
           subst (λ (most : ℕ). aloneOf c attempts ≤ most) (ap (λ (f : RunFigures). f .most) says) (stated c attempts (demanded c z read attempts));
-      marked = λ complying attempts. demanded c z read attempts .no-standstill (answered, ap (λ (f : RunFigures). f .complies) says ∙ complying);
+      marked = λ complying attempts. demanded c z read attempts .no-standstill
+          (yes-complies (c .client) (c .old) (sheetOf (readSheet (c .client))) read (answered, ap (λ (f : RunFigures). f .complies) says ∙ complying));
       standstills = λ R S.
           subst (λ (l : List Choice). Standstill (user c) (service c) (rows c) (runOf c (c .attempts)) R S ↔ List·Memᴰ (record { R = R; S = S }) l)
           (ap (λ (f : RunFigures). f .standstills) says)

@@ -54,13 +54,13 @@ module _ (k : ℕ) (old new : Contract) where
   unfoldable pub rowsFor : List Situation → List (List Move)
   rowsFor kept = planRows same codes (next (alike k) old new) kept start
 
-  -- 13, "the plan is longer than the lent plan", or acceptance
+  -- 13, "the plan is longer than the lent plan", or acceptance; "for 13 all are real"
   unfoldable pub emitted : (room situations rounds : ℕ) → List (List Move) → Outcome
   emitted room situations rounds rows =
       let bytes = planBytes (old .n) k rows in
       cond (leb (length bytes) room) (counted 0 situations (length rows) rounds bytes) (counted 13 situations (length rows) rounds [])
 
-  -- 12, "the start is removed", or what follows
+  -- 12, "the start is removed", or what follows; "for 12 the plan states are 0"
   unfoldable pub related : (room : ℕ) → List Situation → Outcome
   related room reached =
       let left = settledOf reached in
@@ -92,9 +92,9 @@ ranked k records room (good sheets) =
 unfoldable pub outcomeOf : (records room k : ℕ) → (old new : List ℕ) → Outcome
 outcomeOf records room k old new = ranked k records room (readBoth 0 0 old new)
 
--- situations were counted: acceptance, or a refusal above 10
-unfoldable pub counts : ℕ → Bool
-counts number = eqb number 0 || ltb 10 number
+-- an answer after which each record is zero: acceptance, or a refusal above 10
+unfoldable pub clears : ℕ → Bool
+clears number = eqb number 0 || ltb 10 number
 
 -- The answer, and what was lent as it is afterwards.
 pub record Connected (R : Type 0) : Type 0 where
@@ -111,5 +111,5 @@ connectOf blank k old new work plan =
     record {
       answer = o .answer;
       plan = o .bytes ++ drop (length (o .bytes)) plan;
-      work = cond (counts (o .answer .number)) (map (λ r. blank) work) work;
+      work = cond (clears (o .answer .number)) (map (λ r. blank) work) work;
     }

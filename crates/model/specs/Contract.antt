@@ -21,6 +21,7 @@ pub record Contract : Type 0 where
 unfoldable pub actions : List ℕ
 actions = upto 0 14
 
+-- an action takes its name; else it sends it
 unfoldable pub takes : ℕ → Bool
 takes j = ltb j 7
 
@@ -36,10 +37,11 @@ partner j = cond (takes j) (j + 7) (j - 7)
 unfoldable pub has : ℕ → ℕ → Bool
 has mask j = eqb (mask / 2 ^ j % 2) 1
 
--- the state with a number; one that is ready for nothing where there is none
+-- a state without ready sets, which is no state of a sheet
 unfoldable pub nowhere : State
 nowhere = record { ready = []; successors = [] }
 
+-- the state with a number; `nowhere` if there is none
 unfoldable pub state : Contract → ℕ → State
 state c q = getD (c .states) q nowhere
 
@@ -47,6 +49,7 @@ state c q = getD (c .states) q nowhere
 unfoldable pub offersIn : List ℕ → ℕ → Bool
 offersIn ready j = any (λ mask. has mask j) ready
 
+-- the same of a state
 unfoldable pub offers : State → ℕ → Bool
 offers s j = offersIn (s .ready) j
 

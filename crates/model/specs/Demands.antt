@@ -1,11 +1,12 @@
--- What is promised: the three demands as types. They are proved by `demand-1`, `demand-2` and `demand-3`
--- of proofs/Demand1.antt, Demand2.antt and Demand3.antt.
+-- What is promised: the three demands, and what a yes of the client check means, as types. They are proved by `demand-1`, `demand-2`,
+-- `demand-3` and `client-check` of proofs/Demand1.antt, Demand2.antt, Demand3.antt and ClientCheck.antt. A demand's own words stand above its type; all other words in quotation
+-- marks are document 01's.
 -- Assumes nothing.
 use mathlib.Core.Path.{_≡_}
 use mathlib.Core.Bool.{true}
 use mathlib.Core.Logic.{_↔_, _⊎_}
 use mathlib.Core.List.{List, [], _∷_, _++_, map, List·Memᴰ}
-use mathlib.Core.Option.{some}
+use mathlib.Core.Option.{none, some}
 use Prim.Native.Nat.{ℕ, _*_, _≤_, _<_}
 use lib.ListN.{length, getD, getElem?, take, drop}
 use lib.Dec.{T}
@@ -14,23 +15,25 @@ use Rattle.model.specs.Contract.{Contract, has}
 use Rattle.model.specs.Sheet.{Sheet, good, Both, readSheet, readBoth, contractIn}
 use Rattle.model.specs.Situation.{Situation, start, alike, codes, next}
 use Rattle.model.specs.Search.{Reached}
-use Rattle.model.specs.Plan.{held, rowsIn, Stepped, stepRow, stepOf}
+use Rattle.model.specs.Plan.{Move, held, rowsIn, Stepped, stepOf}
 use Rattle.model.specs.Connect.{Connected, limitOf, connectOf}
-use Rattle.model.specs.Client.{compliesOf}
-use Rattle.model.specs.Run.{begin, Attempt, rowAtRun, runFrom, streakFrom, Standstill}
+use Rattle.model.specs.Client.{Complies, compliesOf}
+use Rattle.model.specs.Run.{begin, Attempt, rowAtRun, runFrom, mostAlone, Standstill}
 use Rattle.model.specs.Weak.{Largest}
 
 -- ---- demand 1
 
--- What demand 1 says of connecting: a number of document 01's table, "On a refusal the lent plan is untouched and the lent work
--- table is as 01 says".
+-- what demand 1 says of connecting: a number of document 01's table, and what was lent
 pub record Answers {R : Type 0} (blank : R) (work : List R) (plan : List ℕ) (c : Connected R) : Type 0 where
   pub number : c .answer .number ≤ 13
   -- a refusal: the length is 0 and the lent plan is as it was
   pub refused : (c .answer .number ≡ 0 → ⊥) → (c .answer .length ≡ 0) × (c .plan ≡ plan)
-  -- acceptance: the plan is within what was lent, and the bytes beyond it are as they were
+  -- in any case the lent plan is as long as it was, the answered length is within it, and "bytes beyond it are untouched"
+  pub size : length (c .plan) ≡ length plan
   pub beyond : (c .answer .length ≤ length plan) × (drop (c .answer .length) (c .plan) ≡ drop (c .answer .length) plan)
-  -- refusals 1 to 10 leave the work table as it was, after every other call each record is zero
+  -- "Counts (situations, plan states, rounds): 0 0 0 for 1 to 11"
+  pub uncounted : 1 ≤ c .answer .number → c .answer .number ≤ 11 → (c .answer .situations ≡ 0) × (c .answer .states ≡ 0) × (c .answer .rounds ≡ 0)
+  -- the work table is "unchanged by refusals 1 to 10"; "after every other call, accepted ones included, each record in it is zero"
   pub unchanged : 1 ≤ c .answer .number → c .answer .number ≤ 10 → c .work ≡ work
   pub cleared : (c .answer .number ≡ 0) ⊎ (10 < c .answer .number) → c .work ≡ map (λ r. blank) work
 
@@ -40,7 +43,8 @@ pub record Steps (s : Stepped) : Type 0 where
   pub table : s .number ≤ 16
   pub refused : (s .number ≡ 0 → ⊥) → s .state ≡ 0
 
--- "Every entry point takes bytes of all kinds and lengths and answers with a result or a refusal of document 01's table."
+-- Demand 1: every entry point takes bytes of all kinds and lengths and answers with a result or a refusal of document 01's table. On a
+-- refusal the lent plan is untouched and the lent work table is as 01 says.
 pub record Demand-1 : Type 1 where
   pub connects : (R : Type 0) (blank : R) (k : ℕ) (old new : List ℕ) (work : List R) (plan : List ℕ)
       → Answers blank work plan (connectOf blank k old new work plan)
@@ -75,13 +79,19 @@ module _ (k : ℕ) (σ τ : Contract) where
   abbrev pub Related : Situation → Type 1
   Related s = Largest (alike k) σ τ s
 
+  -- "reached from the start by kept moves", which are those that lead into the largest relation
+  pub data IsKept : Situation → Type 1 where
+    kept-start : {s : Situation} → s ≡ start → IsKept s
+    kept-move : {s t : Situation} (code : ℕ) → List·Memᴰ code codes → next (alike k) σ τ s code ≡ some t → Related t → IsKept s → IsKept t
+
   -- The plan that bytes are holds every move that the largest relation of definition 3.7 allows, and no others: its state i
-  -- stands for the reached situation i of a list, the first of which is the start.
+  -- stands for situation i of a list, the first of which is the start.
   pub record HoldsLargest (bytes : List ℕ) : Type 1 where
     pub states : List Situation
     pub first : getElem? states 0 ≡ some start
     pub distinct : Distinct states
-    pub reached : (s : Situation) → List·Memᴰ s states → IsReached s
+    -- "The plan's states are the situations reached from the start by kept moves"
+    pub kept : (s : Situation) → List·Memᴰ s states ↔ IsKept s
     pub rows : length (rowsIn bytes) ≡ length states
     -- no others: a code of row i is that of a move enabled in situation i, which leads into the largest relation, to the
     -- situation that the row's next state stands for
@@ -121,37 +131,55 @@ module _ {R : Type 0} (blank : R) (k : ℕ) (old new : List ℕ) (sheets : Both)
     -- the situations figure is the number of reached situations, and the rounds figure is no larger
     pub situations : (number plan ≡ 11 → ⊥) → ReachedCount k σ τ (outcome plan .answer .situations)
     pub rounds : outcome plan .answer .rounds ≤ outcome plan .answer .situations
-    -- the plan states figure is the number of the emitted plan's rows
+    -- the plan states figure is the number of the emitted plan's rows; "for 12 the plan states are 0; for 13 all are real": the counts of
+    -- any lent plan that is long enough
     pub states : number plan ≡ 0 → outcome plan .answer .states ≡ length (rowsIn (emittedPlan (outcome plan)))
+    pub no-states : number plan ≡ 12 → outcome plan .answer .states ≡ 0
+    pub real : number plan ≡ 13 → (p : List ℕ) → number p ≡ 0
+        → (outcome plan .answer .situations ≡ outcome p .answer .situations)
+        × (outcome plan .answer .states ≡ outcome p .answer .states)
+        × (outcome plan .answer .rounds ≡ outcome p .answer .rounds)
     -- an emitted plan holds every move that the largest relation allows, and no others
     pub emitted : number plan ≡ 0 → HoldsLargest k σ τ (emittedPlan (outcome plan))
 
--- "A pair within the limits is accepted if and only if some weak k-subcontract relation (definition 3.7 of Padovani 2010) holds
--- the starting situation; else it is refused as 12. The plan holds every move that the largest such relation allows, and no
--- others."
+-- Demand 2: a pair within the limits is accepted if and only if some weak k-subcontract relation (definition 3.7 of Padovani 2010) holds
+-- the starting situation; else it is refused as 12. The plan holds every move that the largest such relation allows, and no others.
 abbrev pub Demand-2 : Type 1
 Demand-2 =
     (R : Type 0) (blank : R) (k : ℕ) (old new : List ℕ) (sheets : Both) (work : List R) (plan : List ℕ)
     → Admitted k old new sheets → Decides blank k old new sheets work plan
 
+-- ---- the client check
+
+-- the check says yes exactly if both sheets are good, in their places and over the same names, and the client complies with the service
+abbrev pub ClientCheck : Type 0
+ClientCheck =
+    (client service : List ℕ)
+    → ((compliesOf client service .number ≡ 0) × (compliesOf client service .yes ≡ true))
+    ↔ ((sheets : Both) × (readBoth 1 0 client service ≡ good sheets) × Complies (sheets .one) (sheets .two))
+
 -- ---- demand 3
 
--- what demand 3 says of a plan's bytes, for a list of attempts with a client, the old contract's sheet and the new contract
-pub record Runs (k : ℕ) (client old : List ℕ) (user new : Contract) (bytes : List ℕ) (attempts : List Attempt) : Type 0 where
-  -- at each attempt, refused or not, stepping gives 0 and the row's next state if the row of the run's plan state holds the
-  -- code, else 16 and 0
-  pub steps : (before after : List Attempt) (a : Attempt) → attempts ≡ before ++ a ∷ after
-      → stepOf bytes (runFrom user new (rowsIn bytes) begin before .plan) (a .code)
-      ≡ stepRow (held (rowAtRun user new (rowsIn bytes) (runFrom user new (rowsIn bytes) begin before)) (a .code))
-  -- after the list, if the client complies with the old contract, a choice is a standstill only if R has the success mark
-  pub no-standstill : (compliesOf client old .number ≡ 0) × (compliesOf client old .yes ≡ true)
-      → (R S : ℕ) → Standstill user new (rowsIn bytes) (runFrom user new (rowsIn bytes) begin attempts) R S → T (has R 14)
-  -- at most 2 times k times n service-alone moves come in a row, refused attempts left out
-  pub few-alone : streakFrom user new (rowsIn bytes) begin 0 attempts ≤ 2 * k * new .n
+-- stepping "gives number 0 and the row's next state if the row holds the code, else 16 and 0"
+pub record Follows (row : List Move) (code : ℕ) (s : Stepped) : Type 0 where
+  pub goes : (to : ℕ) → held row code ≡ some to → s ≡ record { number = 0; state = to }
+  pub stays : held row code ≡ none → s ≡ record { number = 16; state = 0 }
 
--- "One claim about the whole list of attempted moves of a run of an emitted plan, for any client"
+-- what demand 3 says of a plan's bytes, for a list of attempts with a client, the old contract and the new one
+pub record Runs (k : ℕ) (user old new : Contract) (bytes : List ℕ) (attempts : List Attempt) : Type 0 where
+  -- "At each attempt, refused or not", stepping follows the row of the run's plan state
+  pub steps : (before after : List Attempt) (a : Attempt) → attempts ≡ before ++ a ∷ after
+      → Follows (rowAtRun user new (rowsIn bytes) (runFrom user new (rowsIn bytes) begin before)) (a .code)
+      (stepOf bytes (runFrom user new (rowsIn bytes) begin before .plan) (a .code))
+  -- "After the list, if the client complies with the old contract, a choice is a standstill only if R has the success mark"
+  pub no-standstill : Complies user old
+      → (R S : ℕ) → Standstill user new (rowsIn bytes) (runFrom user new (rowsIn bytes) begin attempts) R S → T (has R 14)
+  -- "Refused attempts left out, at most 2 times k times n moves of codes 32+j come in a row"
+  pub few-alone : mostAlone user new (rowsIn bytes) attempts ≤ 2 * k * new .n
+
+-- Demand 3: one claim about the whole list of attempted moves of a run of an emitted plan, for any client.
 abbrev pub Demand-3 : Type 1
 Demand-3 =
     (R : Type 0) (blank : R) (k : ℕ) (old new : List ℕ) (work : List R) (plan : List ℕ) (client : List ℕ) (user : Sheet) (attempts : List Attempt)
     → connectOf blank k old new work plan .answer .number ≡ 0 → readSheet client ≡ good user
-    → Runs k client old (user .contract) (contractIn new) (emittedPlan (connectOf blank k old new work plan)) attempts
+    → Runs k (user .contract) (contractIn old) (contractIn new) (emittedPlan (connectOf blank k old new work plan)) attempts

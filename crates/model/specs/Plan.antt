@@ -40,12 +40,14 @@ module _ {S : Type 0} (same : S → S → Bool) (codes : List ℕ) (next : S →
   unfoldable pub rowOf : S → List Move
   rowOf s = map (λ code. record { code = code; to = target (next s code) }) (movesInto same codes next kept s)
 
+  -- a row for each state
   unfoldable pub planRows : List (List Move)
   planRows = map rowOf planStates
 
 -- ---- the bytes: "rows ...; an index of 32-bit offsets; a trailer of 8 bytes: 32-bit offset of the index, 16-bit state
 -- count (1 to 4,096), n (0 to 7), k (0 to 3). There are no gaps"
 
+-- the moves of a row
 unfoldable pub moveBytes : List Move → List ℕ
 moveBytes [] = []
 moveBytes (m ∷ row) = m .code ∷ (le16 (m .to) ++ moveBytes row)
@@ -54,6 +56,7 @@ moveBytes (m ∷ row) = m .code ∷ (le16 (m .to) ++ moveBytes row)
 unfoldable pub rowBytes : List Move → List ℕ
 rowBytes row = length row ∷ moveBytes row
 
+-- the rows one behind the other
 unfoldable pub rowsBytes : List (List Move) → List ℕ
 rowsBytes [] = []
 rowsBytes (row ∷ rows) = rowBytes row ++ rowsBytes rows
@@ -63,6 +66,7 @@ unfoldable pub indexBytes : ℕ → List (List Move) → List ℕ
 indexBytes i [] = []
 indexBytes i (row ∷ rows) = le32 i ++ indexBytes (i + length (rowBytes row)) rows
 
+-- rows, index, trailer
 unfoldable pub planBytes : ℕ → ℕ → List (List Move) → List ℕ
 planBytes n k rows =
     rowsBytes rows ++ (indexBytes 0 rows ++ (le32 (length (rowsBytes rows)) ++ (le16 (length rows) ++ n ∷ k ∷ [])))
@@ -76,6 +80,7 @@ namedBelow n (client j) = ltb (name j) n
 namedBelow n (service j) = ltb (name j) n
 namedBelow n stray = false
 
+-- "codes strictly ascending"
 unfoldable pub ascending : List Move → Bool
 ascending [] = true
 ascending (m ∷ []) = true
@@ -102,6 +107,7 @@ module _ (b : List ℕ) (index count n : ℕ) where
       let rest = Option·map (λ (rows : List (List Move)). row ∷ rows) (readRows left (suc p) (i + 1 + 3 * size)) in
       cond (eqb (dword b (index + 4 * p)) i && leb (i + 1 + 3 * size) index && goodRow n count row) rest none
 
+-- what a plan's bytes say
 pub record Plan : Type 0 where
   pub n : ℕ
   pub k : ℕ
@@ -124,23 +130,28 @@ unfoldable pub rowsOf : Option Plan → List (List Move)
 rowsOf none = []
 rowsOf (some p) = p .rows
 
+-- the same of bytes
 unfoldable pub rowsIn : List ℕ → List (List Move)
 rowsIn b = rowsOf (readPlan b)
 
 -- ---- stepping: "takes plan, state and code and gives the next state, or 0 with a refusal"; refusals 14, 15, 16
 
+-- what stepping answers: a number, and the next state
 pub record Stepped : Type 0 where
   pub number : ℕ
   pub state : ℕ
 
+-- 16: "code not in that row"
 unfoldable pub stepRow : Option ℕ → Stepped
 stepRow none = record { number = 16; state = 0 }
 stepRow (some to) = record { number = 0; state = to }
 
+-- 14: "a stepped plan breaks the plan layout"; 15: "not a state of the plan"; or what the row says
 unfoldable pub stepIn : Option Plan → ℕ → ℕ → Stepped
 stepIn none state code = record { number = 14; state = 0 }
 stepIn (some p) state code =
     cond (ltb state (length (p .rows))) (stepRow (held (getD (p .rows) state []) code)) (record { number = 15; state = 0 })
 
+-- the whole outcome of stepping
 unfoldable pub stepOf : List ℕ → ℕ → ℕ → Stepped
 stepOf b state code = stepIn (readPlan b) state code

@@ -12,12 +12,13 @@ use Rattle.model.specs.Situation.{Kind, straight, client, service, stray
 use Rattle.model.specs.Test.{listed}
 use Rattle.model.specs.Plan.{Move, held}
 
--- "It holds three states, client, service and plan, all 0 at the start"
+-- "It holds three states, client, service and plan"
 pub record Run : Type 0 where
   pub client : ℕ
   pub service : ℕ
   pub plan : ℕ
 
+-- "all 0 at the start"
 unfoldable pub begin : Run
 begin = record { client = 0; service = 0; plan = 0 }
 
@@ -34,18 +35,23 @@ need R S (client j) = has R (partner j)
 need R S (service j) = has S j
 need R S stray = false
 
+-- a code 32+j, "with the service alone"
 unfoldable pub isAlone : Kind → Bool
 isAlone (straight j) = false
 isAlone (client j) = false
 isAlone (service j) = true
 isAlone stray = false
 
--- the most service-alone moves in a row: `before` of them came right before an attempt that the plan's next state, if it
--- is a move, and the test of its kind describe; `rest` counts on from there
-unfoldable pub streakOver : Option ℕ → Bool → ℕ → (ℕ → ℕ) → ℕ
-streakOver none alone before rest = rest before
-streakOver (some to) true before rest = rest (suc before)
-streakOver (some to) false before rest = max before (rest 0)
+-- "Refused attempts left out": of an attempt that is a move, whether it is with the service alone, before what later ones are
+unfoldable pub ifMove : Option ℕ → Bool → List Bool → List Bool
+ifMove none alone later = later
+ifMove (some to) alone later = alone ∷ later
+
+-- how many in a row at most, `before` of them right before the list
+unfoldable pub longest : ℕ → List Bool → ℕ
+longest before [] = before
+longest before (true ∷ l) = longest (suc before) l
+longest before (false ∷ l) = max before (longest 0 l)
 
 module _ (user new : Contract) (rows : List (List Move)) where
   -- the row of the run's plan state
@@ -71,6 +77,7 @@ module _ (user new : Contract) (rows : List (List Move)) where
   moved r (service j) to = record { client = r .client; service = after (state new (r .service)) j; plan = to }
   moved r stray to = r
 
+  -- the same if the attempt is a move; else the run as it is
   unfoldable pub movedIf : Run → Kind → Option ℕ → Run
   movedIf r kind none = r
   movedIf r kind (some to) = moved r kind to
@@ -84,11 +91,14 @@ module _ (user new : Contract) (rows : List (List Move)) where
   runFrom r [] = r
   runFrom r (a ∷ attempts) = runFrom (attempted r a) attempts
 
-  -- the most moves of codes 32+j in a row, "Refused attempts left out"; `before` of them came right before
-  unfoldable pub streakFrom : Run → ℕ → List Attempt → ℕ
-  streakFrom r before [] = before
-  streakFrom r before (a ∷ attempts) =
-      streakOver (moveTo r a) (isAlone (kindOf (a .code))) before (λ count. streakFrom (attempted r a) count attempts)
+  -- of each move of a list of attempts, whether it is with the service alone
+  unfoldable pub alonesFrom : Run → List Attempt → List Bool
+  alonesFrom r [] = []
+  alonesFrom r (a ∷ attempts) = ifMove (moveTo r a) (isAlone (kindOf (a .code))) (alonesFrom (attempted r a) attempts)
+
+  -- how many moves of codes 32+j come in a row at most, in a run from the start
+  unfoldable pub mostAlone : List Attempt → ℕ
+  mostAlone attempts = longest 0 (alonesFrom begin attempts)
 
   -- "A standstill is a choice under which no code can be made."
   pub record Standstill (r : Run) (R S : ℕ) : Type 0 where

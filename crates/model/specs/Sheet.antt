@@ -40,6 +40,7 @@ pub record Trailer : Type 0 where
   pub role : ℕ
   pub closing : ℕ
 
+-- the last 6 bytes
 unfoldable pub trailer : List ℕ → Trailer
 trailer b =
     let end = length b in
@@ -106,6 +107,7 @@ module _ (b : List ℕ) (t : Trailer) where
       (then (rowAt q i)
       (λ row. then (statesFrom left (suc q) (row .behind)) (λ states. good (row .state ∷ states))))
 
+-- what a sheet's bytes say: a contract and a role
 pub record Sheet : Type 0 where
   pub contract : Contract
   pub role : ℕ
@@ -129,9 +131,11 @@ unfoldable pub sheetOf : Reading Fault Sheet → Sheet
 sheetOf (good s) = s
 sheetOf (refusal f) = record { contract = record { n = 0; states = [] }; role = 0 }
 
+-- its contract
 unfoldable pub contractIn : List ℕ → Contract
 contractIn b = sheetOf (readSheet b) .contract
 
+-- its role
 unfoldable pub roleIn : List ℕ → ℕ
 roleIn b = sheetOf (readSheet b) .role
 

@@ -18,8 +18,8 @@ pub record Rank (limits b : List ℕ) : Type 0 where
   pub size : length b ≡ 14
   pub bounded : (i : ℕ) → getD b i 0 ≤ getD limits i 0
 
--- Bμ for an asynchronous action μ, of whatever rank. The paper lets counts fall below 0, where they have no rank; here such
--- a buffer is none.
+-- One message more in a count, of whatever rank. With `lowered`, one message less, it makes the paper's Bμ for an asynchronous action μ. The
+-- paper lets counts fall below 0, where they have no rank; here `lowered` then gives no buffer.
 unfoldable pub more : List ℕ → ℕ → Option (List ℕ)
 more b i = some (set b i (suc (getD b i 0)))
 
