@@ -17,7 +17,7 @@ NAMES = r'((?:`[^`]+`(?:, | and )?)+)'
 PLACED = re.compile(NAMES + r'(?: \(| in )(?:(proofs/)?([A-Z]\w+)|`([\w/]+\.(?:antt|rt|h))`)(?:\)(?:: ' + NAMES + ')?)?')
 EDITS = re.compile(r'\bedits? ((?:[a-z]\w*/\w+(?:, )?)+)')
 GROUPS = re.compile(r'\b(?:sheet|pair|step|client|walk)_run ' + NAMES)
-FUNCTION = re.compile(r'`(\w+)::(\w+)`')
+FUNCTION = re.compile(r'`(\w+)::(?:\w+::)*(\w+)`')
 # a name of ours by its form, with or without a field behind it: two words, or a capital letter
 WORD = re.compile(r'`([A-Za-z][\w′]*[-_A-Z][\w′-]*|[A-Z][a-z]+\w*)(?:\.(?!py|antt)([\w-]+))?`')
 PATH = re.compile(r'(?<![\w/])((?:(?:crates|docs|examples|include|tests|tools|\.ci)|\w+/(?:specs|proofs|src))/[\w./-]*\w)')
@@ -31,6 +31,8 @@ def written():
 
 
 WORDS = written()
+# crates that others build on and that are not ours
+TOOLCHAIN = {name for name in re.findall(r'\w+', Path('crates.txt').read_text()) if not Path('crates', name).exists()}
 
 
 def names(text):
@@ -54,6 +56,13 @@ def declares(path, name):
     if path.suffix == '.rt':
         return re.search(rf'\b(?:fn|struct|enum|const|mod) {word}\b', there(path))
     return re.search(rf'\b{word}\b', there(path))
+
+
+def sources(owner):
+    """The files in which a crate, a module or a type declares its functions."""
+    places = Path('crates').glob('*/src/*.rt')
+    kind = re.compile(rf'\b(?:struct|enum) {owner}\b')
+    return [path for path in places if owner in (path.parts[1], path.stem) or kind.search(there(path))]
 
 
 def pieces(text):
@@ -80,10 +89,9 @@ def lookups(line):
         place = at(path) if path else Path('crates/model', 'proofs' if proofs else 'specs', file + '.antt')
         for name in names(placed) + names(fields):
             yield 'declaration', f'{name} in {place}', declares(place, name.split('::')[-1])
-    for crate, name in FUNCTION.findall(line):
-        sources = list(Path('crates', crate, 'src').glob('*.rt'))
-        if sources:
-            yield 'function', f'{crate}::{name}', any(declares(source, name) for source in sources)
+    for owner, name in FUNCTION.findall(line):
+        if owner not in TOOLCHAIN:
+            yield 'function', f'{owner}::{name}', any(declares(source, name) for source in sources(owner))
     for path in PATH.findall(line):
         yield 'path', path, at(path).exists()
     for words in WORD.findall(line):

@@ -24,16 +24,6 @@ def packed(records):
     return b"".join(measured(record.data) for record in records)
 
 
-def unpacked(data):
-    """The bytes of each record of a data file."""
-    found, at = [], 0
-    while at < len(data):
-        length = int.from_bytes(data[at : at + 2], "little")
-        found.append(data[at + 2 : at + 2 + length])
-        at += 2 + length
-    return found
-
-
 DIGEST_BASE, DIGEST_PRIME = 257, 4294967291
 
 

@@ -75,8 +75,8 @@ class Cases(unittest.TestCase):
 
 
 class Sheets(unittest.TestCase):
-    """Faults of one sheet of two states, a then the end, client's role where
-    the sixth byte from the end says so."""
+    """Faults of one sheet.  Most have one state, or two: a, then the end.  The
+    last byte but one is the role."""
 
     def refuses(self, text, number, at_state=0, offset=0):
         self.assertEqual(read_sheet(hexed(text)), Refusal(number, at_state, offset))

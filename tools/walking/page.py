@@ -24,12 +24,6 @@ class Page:
                     self.entries[-1][2][key] = rest.strip()
         self.next = 0
 
-    def has(self, kind):
-        if self.next < len(self.entries) and self.entries[self.next][0] == kind:
-            self.next += 1
-            return True
-        return False
-
     def take(self, kind, what=''):
         if self.next == len(self.entries):
             sys.exit(f'walk: the page ends, and the code goes on with: {kind} {what}')

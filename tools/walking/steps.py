@@ -74,7 +74,7 @@ class Steps:
         s = stmts[i]
         last = i == len(stmts) - 1
         nl = '\n        '
-        if stmts is self.body and (self.page.has('cut') or st.calls >= CALLS):
+        if stmts is self.body and st.calls >= CALLS:
             return self.part(i, st, after)
 
         def on():

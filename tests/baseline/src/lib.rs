@@ -1,6 +1,6 @@
-//! A second implementation of document 01's connecting, stepping and client check, written from the document
-//! and for speed. It shares nothing with the crates: the benchmark measures them against it, and compares the
-//! two before it measures.
+//! Document 01's connecting, stepping and client check, written from the document and for speed: a third
+//! implementation, beside the crates and the reference program. It shares nothing with them. The benchmark
+//! compares the crates with it, then measures them against it.
 #![forbid(unsafe_code)]
 
 mod client;

@@ -1,49 +1,46 @@
-//! Agreement with the reference program on its own cases. BASELINE_REFERENCE names a folder that has, from
-//! `python3 -m tests.reference.make write KIND FOLDER/KIND`, the files of the kinds pairs, steps and clients;
-//! without it, or without a kind's files, nothing is compared.
+//! Agreement with the reference program on the data that is stored for the test programs pair_run, step_run and
+//! client_run. tests/reference/README.md says how the records and the lines are laid out.
 
 use baseline::{complies, step, Workspace};
 use std::path::Path;
 
-/// The records and the lines of a kind, if there are any.
-fn stored(kind: &str) -> Option<(Vec<u8>, String)> {
-    let folder = Path::new(&std::env::var_os("BASELINE_REFERENCE")?).join(kind);
-    let records = std::fs::read(folder.join("stdin")).ok()?;
-    Some((records, std::fs::read_to_string(folder.join("stdout")).ok()?))
+/// The stored input of a test program and what it is to print.
+fn stored(program: &str) -> (Vec<u8>, String) {
+    let folder = Path::new(env!("CARGO_MANIFEST_DIR")).join("../../crates").join(program);
+    let read = |name| std::fs::read(folder.join(name)).unwrap_or_else(|error| panic!("{program}/{name}: {error}"));
+    (read("stdin"), String::from_utf8(read("stdout")).unwrap())
 }
 
 fn word(data: &[u8], at: usize) -> usize {
     usize::from(u16::from_le_bytes([data[at], data[at + 1]]))
 }
 
-/// Compares the figures that `answer` gives for each record with the first figures of its line.
-fn agree(kind: &str, mut answer: impl FnMut(&[u8]) -> Vec<u64>) {
-    let Some((records, lines)) = stored(kind) else {
-        println!("no {kind}");
-        return;
-    };
+/// Compares the figures that `answer` gives for each record with those of its line, but for so many at its end.
+fn agree(program: &str, but: usize, mut answer: impl FnMut(&[u8]) -> Vec<u64>) {
+    let (records, lines) = stored(program);
     let (mut at, mut count) = (0, 0);
     for line in lines.lines() {
         let record = &records[at + 2..at + 2 + word(&records, at)];
-        let figures = answer(record);
-        let expected: Vec<u64> = line.split(' ').take(figures.len()).map(|figure| figure.parse().unwrap()).collect();
-        assert_eq!(figures, expected, "{kind}, case {count}");
+        let mut expected: Vec<u64> = line.split(' ').map(|figure| figure.parse().unwrap()).collect();
+        expected.truncate(expected.len() - but);
+        assert_eq!(answer(record), expected, "{program}, case {count}");
         at += 2 + record.len();
         count += 1;
     }
-    assert_eq!(at, records.len(), "{kind}: as many lines as records");
-    println!("{kind}: {count} agree");
+    assert_eq!(at, records.len(), "{program}: as many lines as records");
+    assert!(count > 1000, "{program}: {count} cases");
+    println!("{program}: {count} agree");
 }
 
 fn digest(bytes: &[u8]) -> u64 {
     bytes.iter().fold(0, |figure, byte| (figure * 257 + u64::from(*byte) + 1) % 4_294_967_291)
 }
 
-/// All figures but the last two, which are about records that the caller lends.
+/// The last two figures are about lent records, which the baseline keeps to itself.
 #[test]
 fn pairs() {
     let mut workspace = Workspace::new(usize::from(u16::MAX));
-    agree("pairs", |record| {
+    agree("pair_run", 2, |record| {
         let behind = 7 + word(record, 5);
         let mut plan = vec![0xEE; word(record, 2)];
         let (old, new) = (&record[7..behind], &record[behind..]);
@@ -63,7 +60,7 @@ fn pairs() {
 
 #[test]
 fn steps() {
-    agree("steps", |record| {
+    agree("step_run", 0, |record| {
         let (number, next) = step(&record[3..], word(record, 0) as u16, record[2]);
         vec![number.into(), next.into()]
     });
@@ -71,7 +68,7 @@ fn steps() {
 
 #[test]
 fn clients() {
-    agree("clients", |record| {
+    agree("client_run", 0, |record| {
         let behind = 2 + word(record, 0);
         let (number, sheet, state, yes) = complies(&record[2..behind], &record[behind..]);
         vec![number.into(), sheet.into(), state.into(), yes.into()]

@@ -1,5 +1,6 @@
 //! What is compared and timed: anything that connects.
 
+use crate::product::Product;
 use baseline::{Answer, Workspace};
 
 /// The arguments of a call, the lent plan apart.
@@ -27,11 +28,7 @@ impl Connector for Workspace {
     }
 }
 
-/// The baseline first, then the product if it is linked.
+/// The baseline first, then the product.
 pub fn connectors(records: usize) -> Vec<(&'static str, Box<dyn Connector>)> {
-    vec![
-        ("baseline", Box::new(Workspace::new(records))),
-        #[cfg(feature = "product")]
-        ("product", Box::new(product::Table::new(records))),
-    ]
+    vec![("baseline", Box::new(Workspace::new(records))), ("product", Box::new(Product::new(records)))]
 }

@@ -3,7 +3,6 @@
 
 mod connector;
 mod corpus;
-#[cfg(feature = "product")]
 mod product;
 mod timing;
 
@@ -80,7 +79,7 @@ fn timed(connectors: &mut Connectors, inputs: &[Input], answers: &[Answer]) {
     for (who, _) in connectors.iter() {
         print!(" {:>12}", format!("{who}, us"));
     }
-    println!("{}", if connectors.len() > 1 { "   ratio" } else { "" });
+    println!("   ratio");
     let mut rows = Vec::new();
     for (input, answer) in inputs.iter().zip(answers) {
         let medians = timing::medians(connectors, input, &mut plan);

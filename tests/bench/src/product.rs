@@ -4,9 +4,23 @@ use crate::connector::{Call, Connector};
 use baseline::Answer;
 use product::{Lent, Table};
 
-impl Connector for Table {
+/// The product, and a table to lend.
+pub struct Product {
+    table: Table,
+    /// Whether the table was filled with small numbers when it was last filled.
+    small: bool,
+}
+
+impl Product {
+    /// A product that up to so many records are lent.
+    pub fn new(records: usize) -> Product {
+        Product { table: Table::new(records), small: false }
+    }
+}
+
+impl Connector for Product {
     fn connect(&mut self, call: &Call, plan: &mut [u8]) -> Answer {
-        let answer = Table::connect(self, &Lent::records(call.records), call.k, call.old, call.new, plan);
+        let answer = self.table.connect(&Lent::records(call.records), call.k, call.old, call.new, plan);
         Answer {
             number: answer.number,
             sheet: answer.sheet,
@@ -19,9 +33,10 @@ impl Connector for Table {
     }
 
     fn tried(&mut self, call: &Call, plan: &mut [u8]) -> (Answer, bool) {
-        let lent = Lent::records(call.records);
-        self.fill(&lent);
-        let answer = Connector::connect(self, call, plan);
-        (answer, self.is_as_due(&lent, answer.number))
+        self.small = !self.small;
+        let lent = Lent { small: self.small, ..Lent::records(call.records) };
+        self.table.fill(&lent);
+        let answer = self.connect(call, plan);
+        (answer, self.table.is_as_due(&lent, answer.number))
     }
 }

@@ -9,7 +9,7 @@ pub enum Call {
     Complies(Complies),
 }
 
-/// With `null`, slices without elements pass as null pointers.
+/// With `null`, slices without elements pass as null pointers. With `small`, the lent records hold small numbers.
 #[derive(Clone, Debug, Default, PartialEq, Eq)]
 pub struct Connect {
     pub k: u8,
@@ -18,6 +18,7 @@ pub struct Connect {
     pub records: usize,
     pub room: usize,
     pub null: bool,
+    pub small: bool,
 }
 
 #[derive(Clone, Debug, Default, PartialEq, Eq)]
@@ -38,7 +39,8 @@ pub struct Complies {
 impl Connect {
     /// A call with so many records and plan bytes lent.
     pub fn new(chance: &mut Chance, k: u8, old: Vec<u8>, new: Vec<u8>, records: usize, room: usize) -> Connect {
-        Connect { k, old, new, records, room, null: chance.one_in(2) }
+        let kind = chance.below(4);
+        Connect { k, old, new, records, room, null: kind < 2, small: kind % 2 == 1 }
     }
 }
 
@@ -113,9 +115,10 @@ impl Call {
     #[rustfmt::skip]
     pub fn fields(&mut self) -> Vec<(&'static str, Field<'_>)> {
         match self {
-            Call::Connect(Connect { k, old, new, records, room, null }) => vec![
+            Call::Connect(Connect { k, old, new, records, room, null, small }) => vec![
                 ("k", Field::Byte(k)), ("old", Field::Bytes(old)), ("new", Field::Bytes(new)),
-                ("records", Field::Size(records)), ("room", Field::Size(room)), ("null", Field::Flag(null)),
+                ("records", Field::Size(records)), ("room", Field::Size(room)),
+                ("null", Field::Flag(null)), ("small", Field::Flag(small)),
             ],
             Call::Step(Step { plan, state, code, null }) => vec![
                 ("plan", Field::Bytes(plan)), ("state", Field::Word(state)),

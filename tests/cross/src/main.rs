@@ -10,20 +10,18 @@ use std::path::{Path, PathBuf};
 use std::process::ExitCode;
 use std::time::Instant;
 
-const USAGE: &str = "usage: cross [--seed NUMBER] [--share PERCENT] [--trace FILE] [--failures FOLDER] [--show FILE]";
+const USAGE: &str = "usage: cross [--seed NUMBER] [--share PERCENT] [--trace FILE] [--show FILE]";
 
 struct Options {
     seed: u64,
     share: Share,
     trace: Option<PathBuf>,
-    failures: PathBuf,
     show: Option<PathBuf>,
 }
 
 /// The options, or nothing if they are not understood.
 fn options() -> Option<Options> {
-    let failures = Path::new(env!("CARGO_MANIFEST_DIR")).join("failures");
-    let mut options = Options { seed: 1, share: Share(100), trace: None, failures, show: None };
+    let mut options = Options { seed: 1, share: Share(100), trace: None, show: None };
     let mut words = std::env::args().skip(1);
     while let Some(word) = words.next() {
         let value = words.next()?;
@@ -31,7 +29,6 @@ fn options() -> Option<Options> {
             "--seed" => options.seed = value.parse().ok()?,
             "--share" => options.share = Share(value.parse().ok()?),
             "--trace" => options.trace = Some(value.into()),
-            "--failures" => options.failures = value.into(),
             "--show" => options.show = Some(value.into()),
             _ => return None,
         }
@@ -72,7 +69,8 @@ fn main() -> ExitCode {
         return ExitCode::from(2);
     };
     let (mut baseline, mut product) = (Baseline::new(), Product::new());
-    let mut runner = Runner::new(&mut baseline, &mut product, &options.failures);
+    let failures = Path::new(env!("CARGO_MANIFEST_DIR")).join("failures");
+    let mut runner = Runner::new(&mut baseline, &mut product, &failures);
     let ended = match &options.show {
         Some(path) => show(&mut runner, path),
         None => run(&mut runner, &options),

@@ -107,7 +107,7 @@ impl Product {
     }
 
     fn connect(&mut self, call: &Connect) -> (Figures, bool) {
-        let lent = Lent { records: call.records, null: call.null };
+        let lent = Lent { records: call.records, null: call.null, small: call.small };
         self.first.place(&call.old);
         self.second.place(&call.new);
         self.plan.fill(call.room);

@@ -7,7 +7,7 @@ use cross::guarded::Guarded;
 use cross::parts::{Share, PARTS};
 use cross::runner::{Checked, Ended, Runner};
 use cross::target::{Baseline, Figures, Outcome, Product, Target};
-use std::path::{Path, PathBuf};
+use std::path::PathBuf;
 
 /// What a wrong side changes: the figures, the lent plan, or whether all else is as due.
 type Fault = fn(&Call, &mut Figures, &mut Guarded, &mut bool);
@@ -73,7 +73,7 @@ fn a_wrong_state_of_a_refusal() {
             figures[2] -= 1;
         }
     });
-    let Call::Connect(Connect { k: 0, old, new, records: 0, room: 0, null: false }) = call else {
+    let Call::Connect(Connect { k: 0, old, new, records: 0, room: 0, null: false, small: false }) = call else {
         panic!("not small: {call:?}");
     };
     // Two rows, the second with one ready set and one successor, the index and the trailer.
@@ -148,8 +148,8 @@ fn a_null_pointer_that_matters() {
 
 #[test]
 fn the_right_sides_agree_and_every_outcome_is_met() {
-    let (mut baseline, mut product) = (Baseline::new(), Product::new());
-    let mut runner = Runner::new(&mut baseline, &mut product, Path::new("nowhere"));
-    assert!(run(&mut runner).is_ok());
+    let (mut baseline, mut product, folder) = (Baseline::new(), Product::new(), folder("agree"));
+    let mut runner = Runner::new(&mut baseline, &mut product, &folder);
+    run(&mut runner).expect("no difference");
     assert_eq!(runner.tally.missing(), Vec::<String>::new());
 }

@@ -21,40 +21,66 @@ pub struct Lent {
     pub records: usize,
     /// Whether slices without elements pass as null pointers.
     pub null: bool,
+    /// Whether the records are filled with small numbers.
+    pub small: bool,
 }
 
 impl Lent {
     pub fn records(records: usize) -> Lent {
-        Lent { records, null: false }
+        Lent { records, null: false, small: false }
     }
 }
 
 /// Records of which a part is lent, between records that nobody may touch.
 pub struct Table {
     records: Vec<Record>,
-    pattern: Vec<Record>,
+    /// What the records are filled with: odd bytes, and small numbers.
+    patterns: [Vec<Record>; 2],
+}
+
+/// Two numbers below 256 for each place of a table, in no order.
+fn scattered(place: usize) -> (u8, u8) {
+    let number = (place as u64 + 1).wrapping_mul(0x9E37_79B9_7F4A_7C15);
+    ((number >> 56) as u8, (number >> 32) as u8)
+}
+
+/// The byte at a place where none is zero. Every 16-bit number is above 256: few calls know so many records.
+fn odd(place: usize) -> u8 {
+    scattered(place).0 | 1
+}
+
+/// The byte at a place where every 16-bit number is from 1 to 128, and half of them below 10: as links, they name
+/// records that a call knows.
+fn small(place: usize) -> u8 {
+    let (number, shift) = scattered(place);
+    match place % 2 {
+        0 => 1 + (number >> (1 + shift % 7)),
+        _ => 0,
+    }
 }
 
 impl Table {
     /// A table of which up to so many records can be lent.
     pub fn new(records: usize) -> Table {
-        let scattered = |place: usize| (place as u64 + 1).wrapping_mul(0x9E37_79B9_7F4A_7C15) >> 56;
-        let filled = |record| Record(std::array::from_fn(|byte| scattered(SIZE * record + byte) as u8 | 1));
         let length = records + 2 * GUARDS;
-        Table { records: vec![ZERO; length], pattern: (0..length).map(filled).collect() }
+        let filled = |byte_at: fn(usize) -> u8| {
+            let record = |record| Record(std::array::from_fn(|byte| byte_at(SIZE * record + byte)));
+            (0..length).map(record).collect()
+        };
+        Table { records: vec![ZERO; length], patterns: [odd, small].map(filled) }
     }
 
-    /// Fills what is to be lent, and what stands around it, with bytes that are not zero.
+    /// Fills what is to be lent, and what stands around it, with numbers that are not zero.
     pub fn fill(&mut self, given: &Lent) {
         let length = given.records + 2 * GUARDS;
-        self.records[..length].copy_from_slice(&self.pattern[..length]);
+        self.records[..length].copy_from_slice(&self.patterns[usize::from(given.small)][..length]);
     }
 
     /// Whether the table, filled before the call, is as document 01 says after an answer of this number:
     /// unchanged by refusals 1 to 10, zero after every other call; and nothing around it was touched.
     pub fn is_as_due(&self, given: &Lent, number: u8) -> bool {
         let length = given.records + 2 * GUARDS;
-        let (records, pattern) = (&self.records[..length], &self.pattern[..length]);
+        let (records, pattern) = (&self.records[..length], &self.patterns[usize::from(given.small)][..length]);
         let inside = GUARDS..GUARDS + given.records;
         let due = if (1..=10).contains(&number) {
             records[inside.clone()] == pattern[inside]
@@ -87,27 +113,33 @@ mod tests {
         table
     }
 
+    /// Three records, with each filling.
+    fn each() -> [Lent; 2] {
+        [false, true].map(|small| Lent { small, ..Lent::records(3) })
+    }
+
     #[test]
     fn every_byte_lent_counts() {
-        let lent = Lent::records(3);
-        for place in 0..3 * SIZE {
-            let (record, byte) = (GUARDS + place / SIZE, place % SIZE);
-            let mut table = filled(&lent);
-            assert!(table.is_as_due(&lent, 1) && table.is_as_due(&lent, 10) && !table.is_as_due(&lent, 0));
-            table.records[record].0[byte] ^= 2;
-            assert!(!table.is_as_due(&lent, 10));
-            table.records[GUARDS..GUARDS + 3].fill(ZERO);
-            assert!(table.is_as_due(&lent, 0) && table.is_as_due(&lent, 11) && !table.is_as_due(&lent, 10));
-            table.records[record].0[byte] = 1;
-            assert!(!table.is_as_due(&lent, 11));
+        for lent in each() {
+            for place in 0..3 * SIZE {
+                let (record, byte) = (GUARDS + place / SIZE, place % SIZE);
+                let mut table = filled(&lent);
+                assert!(table.is_as_due(&lent, 1) && table.is_as_due(&lent, 10) && !table.is_as_due(&lent, 0));
+                table.records[record].0[byte] ^= 2;
+                assert!(!table.is_as_due(&lent, 10));
+                table.records[GUARDS..GUARDS + 3].fill(ZERO);
+                assert!(table.is_as_due(&lent, 0) && table.is_as_due(&lent, 11) && !table.is_as_due(&lent, 10));
+                table.records[record].0[byte] = 1;
+                assert!(!table.is_as_due(&lent, 11));
+            }
         }
     }
 
     #[test]
     fn every_byte_around_counts() {
-        let lent = Lent::records(3);
-        for record in [0, 1, GUARDS + 3, GUARDS + 4] {
-            for byte in 0..SIZE {
+        for lent in each() {
+            for place in 0..4 * SIZE {
+                let (record, byte) = ([0, 1, GUARDS + 3, GUARDS + 4][place / SIZE], place % SIZE);
                 let mut table = filled(&lent);
                 table.records[record].0[byte] ^= 2;
                 assert!(!table.is_as_due(&lent, 10));
@@ -115,5 +147,19 @@ mod tests {
                 assert!(!table.is_as_due(&lent, 0));
             }
         }
+    }
+
+    #[test]
+    fn numbers_are_large_or_small() {
+        let table = Table::new(1000);
+        let [odd, small] = &table.patterns;
+        let numbers = |records: &[Record]| -> Vec<u16> {
+            let bytes = records.iter().flat_map(|record| record.0).collect::<Vec<u8>>();
+            bytes.chunks_exact(2).map(|pair| u16::from_le_bytes([pair[0], pair[1]])).collect()
+        };
+        assert!(numbers(odd).iter().all(|number| *number > 256));
+        let small = numbers(small);
+        assert!(small.iter().all(|number| (1..=128).contains(number)));
+        assert!(small.iter().filter(|number| **number < 10).count() > small.len() / 2);
     }
 }
