@@ -20,7 +20,7 @@ use Rattle.situations.specs.declared.Record.{Record}
 use Rattle.situations.specs.Lists.{linksOf, marksOf, presentOf, orderOf, numbersOf}
 use Rattle.numbering.specs.Kept.{statesIn, rowsIn, WorkLists, Shown}
 use Rattle.numbering.specs.Numbered.{Numbered}
-use Rattle.numbering.specs.Work.{NumberedWork}
+use Rattle.numbering.specs.Work.{NumberedInto}
 use Rattle.connect.specs.Answers.{answerOf, counting, Writes}
 use Rattle.connect.specs.declared.Answer.{Answer}
 
@@ -66,24 +66,24 @@ module _ (k : ℕ) (σ τ : Contract) (n situations states rounds size : ℕ) (r
 
 module _ (k : ℕ) (old : List ℕ) (count rounds : ℕ) (ys : List Record) {states : ℕ} {ys′ : List Record}
     (lists : WorkLists count (linksOf ys) (marksOf ys)) (shown : Shown count (linksOf ys) (marksOf ys) (presentOf ys))
-    (numbered : NumberedWork count states ys ys′) where
+    (numbered : NumberedInto count (statesIn (linksOf ys) (marksOf ys) count) states ys ys′) where
   pub numbered-lists : WorkLists count (linksOf ys′) (marksOf ys′)
   numbered-lists =
-      subst⁻¹ (λ (links : List ℕ). WorkLists count links (marksOf ys′)) (numbered .links)
-      (subst⁻¹ (λ (marks : List ℕ). WorkLists count (linksOf ys) marks) (numbered .marks) lists)
+      subst⁻¹ (λ (links : List ℕ). WorkLists count links (marksOf ys′)) (numbered .same .links)
+      (subst⁻¹ (λ (marks : List ℕ). WorkLists count (linksOf ys) marks) (numbered .same .marks) lists)
 
   pub numbered-shown : Shown count (linksOf ys′) (marksOf ys′) (presentOf ys′)
   numbered-shown =
-      subst⁻¹ (λ (links : List ℕ). Shown count links (marksOf ys′) (presentOf ys′)) (numbered .links)
-      (subst⁻¹ (λ (marks : List ℕ). Shown count (linksOf ys) marks (presentOf ys′)) (numbered .marks)
-      (subst⁻¹ (λ (present : List ℕ). Shown count (linksOf ys) (marksOf ys) present) (numbered .present) shown))
+      subst⁻¹ (λ (links : List ℕ). Shown count links (marksOf ys′) (presentOf ys′)) (numbered .same .links)
+      (subst⁻¹ (λ (marks : List ℕ). Shown count (linksOf ys) marks (presentOf ys′)) (numbered .same .marks)
+      (subst⁻¹ (λ (present : List ℕ). Shown count (linksOf ys) (marksOf ys) present) (numbered .same .present) shown))
 
   pub numbered-states : Numbered count (statesIn (linksOf ys′) (marksOf ys′) count) states (orderOf ys′) (numbersOf ys′)
   numbered-states =
-      subst⁻¹ (λ (known : List ℕ). Numbered count known states (orderOf ys′) (numbersOf ys′)) (λ i. statesIn (numbered .links i) (numbered .marks i) count) (numbered .holds)
+      subst⁻¹ (λ (known : List ℕ). Numbered count known states (orderOf ys′) (numbersOf ys′)) (λ i. statesIn (numbered .same .links i) (numbered .same .marks i) count) (numbered .holds)
 
   rows-same : rowsIn (linksOf ys′) (marksOf ys′) count ≡ rowsIn (linksOf ys) (marksOf ys) count
-  rows-same i = rowsIn (numbered .links i) (numbered .marks i) count
+  rows-same i = rowsIn (numbered .same .links i) (numbered .same .marks i) count
 
   states-are : states ≡ length (rowsIn (linksOf ys) (marksOf ys) count)
   states-are = numbered .holds .in-order .free-is ∙ sym (rows-count (linksOf ys) (marksOf ys) count)

@@ -17,8 +17,6 @@ ghost use Rattle.numbering.specs.Kept.{WorkLists, Shown, rowsIn};
 ghost use Rattle.numbering.specs.Work.{Unnumbered};
 ghost use Rattle.connect.specs.Answers.{answerOf, refusing, counting, Writes, Checked};
 ghost use Rattle.connect.specs.Related.{relatedIn};
-use numbering::number;
-use numbering::write;
 use pair::Pair;
 
 // What connecting answers: number, sheet and state of a refusal; situations, plan states and rounds; the plan's length.
@@ -116,11 +114,11 @@ fn emit(
     requires { ⌜ IsSheet (now old) × WorkLists count (linksOf (now work)) (marksOf (now work)) × Shown count (linksOf (now work)) (marksOf (now work)) (presentOf (now work)) × Unnumbered count (now work) ⌝ }
     ensures { λ r. ⌜ ((τ : Contract) → Writes (emitted k (contractIn (now (old .entry))) τ (length (now (plan .entry))) count rounds (rowsIn (linksOf (now (work .entry))) (marksOf (now (work .entry))) count)) r (now (plan .entry)) (now (plan .exit))) ⌝ }
 {
-    let states = number::number_states(work, count);
-    let length = write::plan_length(work, count, states);
+    let states = numbering::number_states(work, count);
+    let length = numbering::plan_length(work, count, states);
     if fits(length, plan.len()) {
         let n = sheet::name_count(old);
-        write::write_plan(work, count, states, n, k, plan);
+        numbering::write_plan(work, count, states, n, k, plan);
         return with_counts(0, count, states, rounds, length);
     }
     with_counts(13, count, states, rounds, 0)

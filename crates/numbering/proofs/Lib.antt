@@ -16,12 +16,12 @@ pub mod LookedAt
 pub mod Numbering
 pub mod NumberLookAtCall
 pub mod NumberNarrowCall
-pub mod NumberNumberStatesCall
+pub mod NumberStatesCall
 pub mod States
 pub mod WriteWideCall
 pub mod FieldsRowLengthCall
 pub mod WriteWholeLengthCall
-pub mod WritePlanLengthCall
+pub mod PlanLengthCall
 pub mod RowAt
 pub mod PlanWritePutDwordCall
 pub mod WriteWriteIndexCall
@@ -29,7 +29,7 @@ pub mod WriteWriteRowsCall
 pub mod WritePlaceAtCall
 pub mod WriteTrailerAtCall
 pub mod PlanWritePutTrailerCall
-pub mod WriteWritePlanCall
+pub mod WritePlanCall
 pub mod FieldsMovesInCall
 pub mod PlanWritePutByteCall
 pub mod WriteWriteMoveCall

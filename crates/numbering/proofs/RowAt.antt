@@ -10,7 +10,7 @@ use lib.Count.{ones, trailingZeros}
 use borrow.Rule.Slice.PartMut.{putMid, midOf}
 use Rattle.model.specs.Plan.{moveBytes, rowBytes}
 use Rattle.table.specs.Links.{codeAt}
-use Rattle.table.specs.Masks.{slotsIn}
+use Rattle.table.proofs.Bits.{slotsIn}
 use Rattle.plan.specs.Front.{front}
 use Rattle.situations.specs.declared.Record.{Record}
 use Rattle.situations.specs.Records.{blank}

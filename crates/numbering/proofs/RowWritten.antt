@@ -12,7 +12,7 @@ use Rattle.model.specs.Contract.{has}
 use Rattle.model.specs.Plan.{Move, moveBytes, rowBytes}
 use Rattle.model.proofs.PlanBytes.{length-moves}
 use Rattle.table.specs.Links.{codeAt}
-use Rattle.table.specs.Masks.{slotsIn}
+use Rattle.table.proofs.Bits.{slotsIn}
 use Rattle.plan.specs.Front.{front}
 use Rattle.plan.proofs.Written.{moves-append}
 use Rattle.numbering.specs.Kept.{keptLink, statesIn, rowIn, WorkLists, Shown}

@@ -1,10 +1,10 @@
-// The plan's bytes by the numbered states: how many there are, and the writing of them.
+// The parts of a plan by the numbered states: the rows, the index, and where they end.
 use crate::fields;
 ghost use mathlib.Core.Path.{_≡_};
 ghost use mathlib.Core.List.{[], _∷_, List·Memᴰ};
-ghost use Prim.Native.Nat.{ℕ, _+_, _-_, _*_, _≤_, _<_};
+ghost use Prim.Native.Nat.{_+_, _-_, _*_, _≤_, _<_};
 ghost use lib.ListN.{length};
-ghost use Rattle.model.specs.Plan.{moveBytes, rowBytes, rowsBytes, indexBytes, planBytes};
+ghost use Rattle.model.specs.Plan.{moveBytes, rowBytes, rowsBytes, indexBytes};
 ghost use Rattle.table.specs.Links.{codeAt};
 ghost use Rattle.plan.specs.Front.{front};
 ghost use Rattle.situations.specs.Lists.{linksOf, presentOf, marksOf, orderOf, numbersOf};
@@ -46,23 +46,6 @@ pub fn whole_length(rows: u32, states: u16) -> u32
     ensures { λ r. ⌜ r ≡ rows + 4 * states + 8 ⌝ }
 {
     rows + 4 * (states as u32) + 8
-}
-
-// How many bytes the plan has. The states stand in order.
-pub fn plan_length(work: &[situations::Record], count: usize, states: u16) -> u32
-    requires { ⌜ WorkLists count (linksOf (now work)) (marksOf (now work)) × Shown count (linksOf (now work)) (marksOf (now work)) (presentOf (now work)) × InOrder (statesIn (linksOf (now work)) (marksOf (now work)) count) states (orderOf (now work)) ⌝ }
-    ensures { λ r. ⌜ ((n k : ℕ) → r ≡ length (planBytes n k (rowsIn (linksOf (now (work .entry))) (marksOf (now (work .entry))) count))) ⌝ }
-{
-    let last = wide(states);
-    let mut rows: u32 = 0;
-    let mut p: usize = 0;
-    while p < last {
-        let s = situations::load(work, p);
-        let y = situations::load(work, situations::fields::order_of(s));
-        rows = rows + fields::row_length(y);
-        p = p + 1;
-    }
-    whole_length(rows, states)
 }
 
 // The move of a slot to the state with a number, at the front of what is lent.
@@ -126,23 +109,4 @@ pub fn write_index(work: &[situations::Record], count: usize, states: u16, out: 
         at = at + 4;
         p = p + 1;
     }
-}
-
-// The plan, at the front of what is lent; the bytes beyond it are untouched.
-pub fn write_plan(
-    work: &[situations::Record],
-    count: usize,
-    states: u16,
-    n: u8,
-    k: u8,
-    out: &mut [u8],
-)
-    requires { ⌜ WorkLists count (linksOf (now work)) (marksOf (now work)) × Shown count (linksOf (now work)) (marksOf (now work)) (presentOf (now work)) × Numbered count (statesIn (linksOf (now work)) (marksOf (now work)) count) states (orderOf (now work)) (numbersOf (now work)) × (length (planBytes n k (rowsIn (linksOf (now work)) (marksOf (now work)) count)) ≤ length (now out)) ⌝ }
-    ensures { λ _. ⌜ now (out .exit) ≡ front (planBytes n k (rowsIn (linksOf (now (work .entry))) (marksOf (now (work .entry))) count)) (now (out .entry)) ⌝ }
-{
-    let index = write_rows(work, count, states, out);
-    let behind = place_at(index);
-    write_index(work, count, states, &mut out[behind..]);
-    let trailer = trailer_at(index, states);
-    plan::write::put_trailer(&mut out[trailer..], index, states, n, k);
 }

@@ -17,7 +17,7 @@ pub fn put_byte(out: &mut [u8], x: u8)
 }
 
 // A 16-bit number.
-pub fn put_word(out: &mut [u8], x: u16)
+fn put_word(out: &mut [u8], x: u16)
     requires { ⌜ 2 ≤ length (now out) ⌝ }
     ensures { λ _. ⌜ now (out .exit) ≡ front (le16 x) (now (out .entry)) ⌝ }
 {

@@ -87,7 +87,7 @@ offer-has b q j e = ap (λ (o : Offer). has (o .actions) j) e ∙ has-union (sta
 
 -- ---- the trailer and the rows
 module _ (b : List ℕ) (whole : IsSheet b) where
-  pub count-is : trailer b .count ≡ length (contractIn b .states)
+  count-is : trailer b .count ≡ length (contractIn b .states)
   count-is = sym (sheet-stands b whole .states .size)
 
   pub states-some : 1 ≤ length (contractIn b .states)

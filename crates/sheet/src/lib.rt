@@ -76,14 +76,6 @@ pub fn check_sheet(b: &[u8]) -> Checked
     check_states(b, t)
 }
 
-// How many states a sheet has.
-pub fn state_count(b: &[u8]) -> u8
-    requires { ⌜ IsSheet (now b) ⌝ }
-    ensures { λ r. ⌜ r ≡ length (contractIn (now (b .entry)) .states) ⌝ }
-{
-    read_trailer(b).count
-}
-
 // How many names a sheet is over.
 pub fn name_count(b: &[u8]) -> u8
     requires { ⌜ IsSheet (now b) ⌝ }
@@ -126,7 +118,7 @@ pub fn ready_set(b: &[u8], q: u8, i: u8) -> u16
 }
 
 // The union of the ready sets of state q, as a mask.
-pub fn offered(b: &[u8], q: u8) -> u16
+fn offered(b: &[u8], q: u8) -> u16
     requires { ⌜ IsSheet (now b) × (q < length (contractIn (now b) .states)) ⌝ }
     ensures { λ r. ⌜ r ≡ unionOf (state (contractIn (now (b .entry))) q .ready) ⌝ }
 {

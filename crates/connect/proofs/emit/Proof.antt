@@ -10,17 +10,17 @@ use Rattle.connect.proofs.emit.Statement as this-stated
 use Rattle.connect.proofs.emit.Code as this-code
 use Rattle.connect.proofs.emit.Code.Mir as this-mir
 use Rattle.connect.proofs.emit.Key.{name as #connect·emit}
-use Rattle.numbering.proofs.NumberNumberStatesCall.{calls-number-states, number-states-contract}
-use Rattle.numbering.proofs.number.number_states.Symbol as number-states-def
-use Rattle.numbering.proofs.number.number_states.Symbol.{name as #numbering·number·number-states}
-use Rattle.numbering.proofs.number.number_states.Met as number-states-thm
-use Rattle.numbering.specs.Kept.{Shown, WorkLists, rowsIn}
+use Rattle.numbering.proofs.NumberStatesCall.{calls-number-states, number-states-contract}
+use Rattle.numbering.proofs.number_states.Symbol as number-states-def
+use Rattle.numbering.proofs.number_states.Symbol.{name as #numbering·number-states}
+use Rattle.numbering.proofs.number_states.Met as number-states-thm
+use Rattle.numbering.specs.Kept.{Shown, WorkLists, rowsIn, statesIn}
 use Rattle.situations.specs.Lists.{linksOf, marksOf, presentOf}
-use Rattle.numbering.specs.Work.{NumberedWork, Unnumbered}
-use Rattle.numbering.proofs.WritePlanLengthCall.{calls-plan-length, plan-length-contract}
-use Rattle.numbering.proofs.write.plan_length.Symbol as plan-length-def
-use Rattle.numbering.proofs.write.plan_length.Symbol.{name as #numbering·write·plan-length}
-use Rattle.numbering.proofs.write.plan_length.Met as plan-length-thm
+use Rattle.numbering.specs.Work.{NumberedInto, Unnumbered}
+use Rattle.numbering.proofs.PlanLengthCall.{calls-plan-length, plan-length-contract}
+use Rattle.numbering.proofs.plan_length.Symbol as plan-length-def
+use Rattle.numbering.proofs.plan_length.Symbol.{name as #numbering·plan-length}
+use Rattle.numbering.proofs.plan_length.Met as plan-length-thm
 use Rattle.model.specs.Plan.{planBytes}
 use Rattle.connect.proofs.FitsCall.{calls-fits, fits-contract}
 use Rattle.connect.proofs.fits.Symbol as fits-def
@@ -32,10 +32,10 @@ use Rattle.sheet.proofs.name_count.Symbol.{name as #sheet·name-count}
 use Rattle.sheet.proofs.name_count.Met as name-count-thm
 use Rattle.sheet.specs.Whole.{IsSheet}
 use Rattle.model.specs.Sheet.{contractIn}
-use Rattle.numbering.proofs.WriteWritePlanCall.{calls-write-plan, write-plan-contract}
-use Rattle.numbering.proofs.write.write_plan.Symbol as write-plan-def
-use Rattle.numbering.proofs.write.write_plan.Symbol.{name as #numbering·write·write-plan}
-use Rattle.numbering.proofs.write.write_plan.Met as write-plan-thm
+use Rattle.numbering.proofs.WritePlanCall.{calls-write-plan, write-plan-contract}
+use Rattle.numbering.proofs.write_plan.Symbol as write-plan-def
+use Rattle.numbering.proofs.write_plan.Symbol.{name as #numbering·write-plan}
+use Rattle.numbering.proofs.write_plan.Met as write-plan-thm
 use Rattle.connect.proofs.WithCountsCall.{calls-with-counts, with-counts-contract}
 use Rattle.connect.proofs.with_counts.Symbol as with-counts-def
 use Rattle.connect.proofs.with_counts.Symbol.{name as #connect·with-counts}
@@ -109,12 +109,12 @@ module _ {M : Type 1} (𝓤 : URA M) (H : Heap 𝓤) (A : Atoms 𝓤) (W : Given
       suffices ! _ (ends-at 𝓤 H A this.ended stayed (this.clauses 𝓤 H A mem run) W (((κ-old, (κ-work, (κ-plan, tt))), (q-old, (q-work, (q-plan, tt))), tt, args, machine), tt) (Answer-laws.lowered r) r (tt, (tt, (work′, (plan′, (tt, (tt, tt)))))) (tt, (tt, (long-work, (long-plan, (tt, (tt, tt))))))) $ says ! said $
       owned ! Answer-row.the-row (Is Answer-row.the-row) (LL.makes Answer-row.the-type Answer-laws.the-plain 𝓤 H A) r _ is-res $ nothing ! $ owned ! u16 (Is u16) (uint-makes 𝓤 H A W w16) rounds _ (refl, fits-rounds) $ fjoin ! $ owned ! usize (Is usize) (uint-makes 𝓤 H A W w64) count _ (refl, fits-count) $ fjoin ! $ move ! (6 ∷ 0 ∷ []) $ fjoin ! $ move ! (4 ∷ 0 ∷ []) $ fjoin ! $ move ! (2 ∷ 0 ∷ []) $ fjoin ! $ owned ! u8 (Is u8) (uint-makes 𝓤 H A W w8) k _ (refl, fits-k) $ fjoin ! $ nothing ! $ move ! (5 ∷ 0 ∷ []) $ join ! $ move ! (4 ∷ 0 ∷ []) $ join ! $ move ! (3 ∷ 0 ∷ []) $ join ! $ done !
 
-  module _ (𝓣 : Tables 𝓤 H) (known-number-states : Triple 𝓤 (𝓣 .C #numbering·number·number-states) (number-states-contract 𝓤 H A mem run)) (known-plan-length : Triple 𝓤 (𝓣 .C #numbering·write·plan-length) (plan-length-contract 𝓤 H A mem run)) (known-fits : Triple 𝓤 (𝓣 .C #connect·fits) (fits-contract 𝓤 H A mem run)) (known-name-count : Triple 𝓤 (𝓣 .C #sheet·name-count) (name-count-contract 𝓤 H A mem run)) (known-write-plan : Triple 𝓤 (𝓣 .C #numbering·write·write-plan) (write-plan-contract 𝓤 H A mem run)) (known-with-counts : Triple 𝓤 (𝓣 .C #connect·with-counts) (with-counts-contract 𝓤 H A mem run)) where
+  module _ (𝓣 : Tables 𝓤 H) (known-number-states : Triple 𝓤 (𝓣 .C #numbering·number-states) (number-states-contract 𝓤 H A mem run)) (known-plan-length : Triple 𝓤 (𝓣 .C #numbering·plan-length) (plan-length-contract 𝓤 H A mem run)) (known-fits : Triple 𝓤 (𝓣 .C #connect·fits) (fits-contract 𝓤 H A mem run)) (known-name-count : Triple 𝓤 (𝓣 .C #sheet·name-count) (name-count-contract 𝓤 H A mem run)) (known-write-plan : Triple 𝓤 (𝓣 .C #numbering·write-plan) (write-plan-contract 𝓤 H A mem run)) (known-with-counts : Triple 𝓤 (𝓣 .C #connect·with-counts) (with-counts-contract 𝓤 H A mem run)) where
     module _ (l0 l1 l2 l3 l4 l5 l6 l7 l8 l9 l10 l11 l12 l13 l14 l15 l16 l17 l18 l19 l20 : ℕ) where
       abbrev En : Env 𝓤 H
       En = (Answer-laws.mir, l0) ∷ ((tyInt w8), l1) ∷ (τ0, l2) ∷ (τ1, l3) ∷ (τ2, l4) ∷ ((tyInt w64), l5) ∷ ((tyInt w16), l6) ∷ ((tyInt w16), l7) ∷ ((tyInt w32), l8) ∷ ((tyInt w8), l9) ∷ (τ3, l10) ∷ (τ4, l11) ∷ (τ5, l12) ∷ (τ6, l13) ∷ (tyBool, l14) ∷ ((tyInt w64), l15) ∷ (tyUnit, l16) ∷ (τ5, l17) ∷ (τ6, l18) ∷ (τ7, l19) ∷ (τ8, l20) ∷ []
 
-      part-10 : (states : ℕ) (ordered : List Record) (fits-states : states < 2 ^ 16) (same-ordered : length ordered ≡ length work) (numbered : NumberedWork count states (work) (ordered)) (size : ℕ) (fits-size : size < 2 ^ 32) (size-is : ((n k : ℕ) → size ≡ length (planBytes n k (rowsIn (linksOf (ordered)) (marksOf (ordered)) count)))) (enough : Bool) (enough-is : enough ≡ leb size (length plan)) (lacks-room : enough ≡ false) (answer : Answer) (is-answer : Is Answer-row.the-row answer (Answer-laws.lowered answer ∷ [])) (answer-is : answerOf answer ≡ counting 13 count states rounds 0) → Sq W (‵ (ShrSlice (named 0) κ-old u8 .own (lentAt b-old o-old γ-old old) (s-old ∷ [])) ∷ ‵ (flft κ-old q-old) ∷ ‵ (MutSlice (named 1) κ-work Record-row.the-row .own (lentAt b-work o-work γ-work ordered) (s-work ∷ [])) ∷ ‵ (flft κ-work q-work) ∷ ‵ (MutSlice (named 2) κ-plan u8 .own (lentAt b-plan o-plan γ-plan plan) (s-plan ∷ [])) ∷ ‵ (flft κ-plan q-plan) ∷ empty τ8 l20 (empty τ7 l19 (empty τ6 l18 (empty τ5 l17 (empty tyUnit l16 (empty (tyInt w64) l15 (empty tyBool l14 (empty τ6 l13 (empty τ5 l12 (empty τ4 l11 (empty τ3 l10 (empty (tyInt w8) l9 (empty (tyInt w32) l8 (empty (tyInt w16) l7 (empty (tyInt w16) l6 (empty (tyInt w64) l5 (empty τ2 l4 (empty τ1 l3 (empty τ0 l2 (empty (tyInt w8) l1 (full Answer-laws.mir l0 (Answer-laws.lowered answer) ([])))))))))))))))))))))) (runs (𝓣 .C) (𝓣 .Λ) En this-mir.t-11 (atRet En Ends))
+      part-10 : (states : ℕ) (ordered : List Record) (fits-states : states < 2 ^ 16) (same-ordered : length ordered ≡ length work) (numbered : NumberedInto count (statesIn (linksOf (work)) (marksOf (work)) count) states (work) (ordered)) (size : ℕ) (fits-size : size < 2 ^ 32) (size-is : ((n k : ℕ) → size ≡ length (planBytes n k (rowsIn (linksOf (ordered)) (marksOf (ordered)) count)))) (enough : Bool) (enough-is : enough ≡ leb size (length plan)) (lacks-room : enough ≡ false) (answer : Answer) (is-answer : Is Answer-row.the-row answer (Answer-laws.lowered answer ∷ [])) (answer-is : answerOf answer ≡ counting 13 count states rounds 0) → Sq W (‵ (ShrSlice (named 0) κ-old u8 .own (lentAt b-old o-old γ-old old) (s-old ∷ [])) ∷ ‵ (flft κ-old q-old) ∷ ‵ (MutSlice (named 1) κ-work Record-row.the-row .own (lentAt b-work o-work γ-work ordered) (s-work ∷ [])) ∷ ‵ (flft κ-work q-work) ∷ ‵ (MutSlice (named 2) κ-plan u8 .own (lentAt b-plan o-plan γ-plan plan) (s-plan ∷ [])) ∷ ‵ (flft κ-plan q-plan) ∷ empty τ8 l20 (empty τ7 l19 (empty τ6 l18 (empty τ5 l17 (empty tyUnit l16 (empty (tyInt w64) l15 (empty tyBool l14 (empty τ6 l13 (empty τ5 l12 (empty τ4 l11 (empty τ3 l10 (empty (tyInt w8) l9 (empty (tyInt w32) l8 (empty (tyInt w16) l7 (empty (tyInt w16) l6 (empty (tyInt w64) l5 (empty τ2 l4 (empty τ1 l3 (empty τ0 l2 (empty (tyInt w8) l1 (full Answer-laws.mir l0 (Answer-laws.lowered answer) ([])))))))))))))))))))))) (runs (𝓣 .C) (𝓣 .Λ) En this-mir.t-11 (atRet En Ends))
       part-10 states ordered fits-states same-ordered numbered size fits-size size-is enough enough-is lacks-room answer is-answer answer-is =
           returns-within ! Ends refl (look ! 46 refl) $ released ! (‵ (ShrSlice (named 0) κ-old u8 .own (lentAt b-old o-old γ-old old) (s-old ∷ [])) ∷ ‵ (flft κ-old q-old) ∷ ‵ (MutSlice (named 1) κ-work Record-row.the-row .own (lentAt b-work o-work γ-work ordered) (s-work ∷ [])) ∷ ‵ (flft κ-work q-work) ∷ ‵ (MutSlice (named 2) κ-plan u8 .own (lentAt b-plan o-plan γ-plan plan) (s-plan ∷ [])) ∷ ‵ (flft κ-plan q-plan) ∷ []) (held Answer-laws.mir l0 (Answer-laws.lowered answer) ∷ bare (tyInt w8) l1 ∷ bare τ0 l2 ∷ bare τ1 l3 ∷ bare τ2 l4 ∷ bare (tyInt w64) l5 ∷ bare (tyInt w16) l6 ∷ bare (tyInt w16) l7 ∷ bare (tyInt w32) l8 ∷ bare (tyInt w8) l9 ∷ bare τ3 l10 ∷ bare τ4 l11 ∷ bare τ5 l12 ∷ bare τ6 l13 ∷ bare tyBool l14 ∷ bare (tyInt w64) l15 ∷ bare tyUnit l16 ∷ bare τ5 l17 ∷ bare τ6 l18 ∷ bare τ7 l19 ∷ bare τ8 l20 ∷ []) $ by ! (exits answer ordered plan is-answer (same-ordered ∙ refl) refl (plan-refused k old count rounds work (needed .1) (needed .2) numbered size-is plan enough-is lacks-room answer-is))
 
@@ -166,11 +166,11 @@ module _ {M : Type 1} (𝓤 : URA M) (H : Heap 𝓤) (A : Atoms 𝓤) (W : Given
         pass1 ! (init ! 38 refl (tt, record { fits = fits-k })) $ pass1 ! (init ! 36 refl (tt, (tt, (record { fits = room-old .0 }, tt)))) $ pass1 ! (init ! 34 refl (tt, (tt, (record { fits = room-work .0 }, tt)))) $ pass1 ! (init ! 32 refl (tt, (tt, (record { fits = room-plan .0 }, tt)))) $ pass1 ! (init ! 30 refl (tt, record { fits = fits-count })) $ pass1 ! (init ! 28 refl (tt, record { fits = fits-rounds })) $ pass0 ! $ move ! (42 ∷ 43 ∷ 44 ∷ 45 ∷ 46 ∷ 47 ∷ []) $ part-1 l0 l1 l2 l3 l4 l5 l6 l7 l8 l9 l10 l11 l12 l13 l14 l15 l16 l17 l18 l19 l20)))))))))))))))))))))
 
 module _ {M : Type 1} (𝓤 : URA M) (H : Heap 𝓤) (A : Atoms 𝓤) (W : Given 𝓤 H A) (mem : Memory → SProp 𝓤) (run : Routine → Fun 𝓤) where
-  emit-walks : (𝓣 : Tables 𝓤 H) → Triple 𝓤 (𝓣 .C #numbering·number·number-states) (number-states-contract 𝓤 H A mem run) → Triple 𝓤 (𝓣 .C #numbering·write·plan-length) (plan-length-contract 𝓤 H A mem run) → Triple 𝓤 (𝓣 .C #connect·fits) (fits-contract 𝓤 H A mem run) → Triple 𝓤 (𝓣 .C #sheet·name-count) (name-count-contract 𝓤 H A mem run) → Triple 𝓤 (𝓣 .C #numbering·write·write-plan) (write-plan-contract 𝓤 H A mem run) → Triple 𝓤 (𝓣 .C #connect·with-counts) (with-counts-contract 𝓤 H A mem run) → Walks 𝓤 H A this.ended stayed (WpFn 𝓤 H (𝓣 .C) (𝓣 .Λ) this-code.function) (this.clauses 𝓤 H A mem run)
+  emit-walks : (𝓣 : Tables 𝓤 H) → Triple 𝓤 (𝓣 .C #numbering·number-states) (number-states-contract 𝓤 H A mem run) → Triple 𝓤 (𝓣 .C #numbering·plan-length) (plan-length-contract 𝓤 H A mem run) → Triple 𝓤 (𝓣 .C #connect·fits) (fits-contract 𝓤 H A mem run) → Triple 𝓤 (𝓣 .C #sheet·name-count) (name-count-contract 𝓤 H A mem run) → Triple 𝓤 (𝓣 .C #numbering·write-plan) (write-plan-contract 𝓤 H A mem run) → Triple 𝓤 (𝓣 .C #connect·with-counts) (with-counts-contract 𝓤 H A mem run) → Walks 𝓤 H A this.ended stayed (WpFn 𝓤 H (𝓣 .C) (𝓣 .Λ) this-code.function) (this.clauses 𝓤 H A mem run)
   emit-walks 𝓣 known-number-states known-plan-length known-fits known-name-count known-write-plan known-with-counts = walked 𝓤 H A this.ended stayed (this.clauses 𝓤 H A mem run) (WpFn 𝓤 H (𝓣 .C) (𝓣 .Λ) this-code.function)
       (λ κs. (uint-vals w8, (slice-vals, (slice-vals, (slice-vals, (uint-vals w64, (uint-vals w16, tt))))))) (λ κs. (uint-tells w8, (shr-slice-tells (named 0) (κs .0) u8, (mut-slice-tells (named 1) (κs .1 .0) Record-row.the-row, (mut-slice-tells (named 2) (κs .1 .1 .0) u8, (uint-tells w64, (uint-tells w16, tt))))))) (λ κs qs bounds a g are. needs 𝓤 (IsSheet ((a .1 .0 .now)) × WorkLists (a .1 .1 .1 .1 .0) (linksOf ((a .1 .1 .0 .now))) (marksOf ((a .1 .1 .0 .now))) × Shown (a .1 .1 .1 .1 .0) (linksOf ((a .1 .1 .0 .now))) (marksOf ((a .1 .1 .0 .now))) (presentOf ((a .1 .1 .0 .now))) × Unnumbered (a .1 .1 .1 .1 .0) ((a .1 .1 .0 .now))) _ (λ needed. walk 𝓤 H A W mem run (a .0) (κs .0) (qs .0) (a .1 .0 .ptr .0) (a .1 .0 .ptr .1) (a .1 .0 .name) (a .1 .0 .now) (κs .1 .0) (qs .1 .0) (a .1 .1 .0 .ptr .0) (a .1 .1 .0 .ptr .1) (a .1 .1 .0 .name) (a .1 .1 .0 .now) (κs .1 .1 .0) (qs .1 .1 .0) (a .1 .1 .1 .0 .ptr .0) (a .1 .1 .1 .0 .ptr .1) (a .1 .1 .1 .0 .name) (a .1 .1 .1 .0 .now) (a .1 .1 .1 .1 .0) (a .1 .1 .1 .1 .1 .0) (are .0 .1) (are .1 .0 .0 .1) (are .1 .1 .0 .0 .1) (are .1 .1 .1 .0 .0 .1) (are .1 .1 .1 .1 .0 .1) (are .1 .1 .1 .1 .1 .0 .1) needed 𝓣 known-number-states known-plan-length known-fits known-name-count known-write-plan known-with-counts))
 
-  emit-meets : (𝓣 : Tables 𝓤 H) → Triple 𝓤 (𝓣 .C #numbering·number·number-states) (number-states-contract 𝓤 H A mem run) → Triple 𝓤 (𝓣 .C #numbering·write·plan-length) (plan-length-contract 𝓤 H A mem run) → Triple 𝓤 (𝓣 .C #connect·fits) (fits-contract 𝓤 H A mem run) → Triple 𝓤 (𝓣 .C #sheet·name-count) (name-count-contract 𝓤 H A mem run) → Triple 𝓤 (𝓣 .C #numbering·write·write-plan) (write-plan-contract 𝓤 H A mem run) → Triple 𝓤 (𝓣 .C #connect·with-counts) (with-counts-contract 𝓤 H A mem run) → Meets 𝓤 H A this.signature (WpFn 𝓤 H (𝓣 .C) (𝓣 .Λ) this-code.function) (this.spec 𝓤 H A mem run)
+  emit-meets : (𝓣 : Tables 𝓤 H) → Triple 𝓤 (𝓣 .C #numbering·number-states) (number-states-contract 𝓤 H A mem run) → Triple 𝓤 (𝓣 .C #numbering·plan-length) (plan-length-contract 𝓤 H A mem run) → Triple 𝓤 (𝓣 .C #connect·fits) (fits-contract 𝓤 H A mem run) → Triple 𝓤 (𝓣 .C #sheet·name-count) (name-count-contract 𝓤 H A mem run) → Triple 𝓤 (𝓣 .C #numbering·write-plan) (write-plan-contract 𝓤 H A mem run) → Triple 𝓤 (𝓣 .C #connect·with-counts) (with-counts-contract 𝓤 H A mem run) → Meets 𝓤 H A this.signature (WpFn 𝓤 H (𝓣 .C) (𝓣 .Λ) this-code.function) (this.spec 𝓤 H A mem run)
   emit-meets 𝓣 known-number-states known-plan-length known-fits known-name-count known-write-plan known-with-counts = walk-meets 𝓤 H A this.ended stayed W (goes-none 𝓤 H A W 3 (λ _. u8) yes (λ κs x f. refl), (goes-none-slice 𝓤 H A W 3 (0 ∷ []) tt (plain (λ _. u8)) yes, (goes-slice 𝓤 H A W 3 1 tt (plain (λ _. Record-row.the-row)), (goes-slice 𝓤 H A W 3 2 tt (plain (λ _. u8)), (goes-none 𝓤 H A W 3 (λ _. usize) yes (λ κs x f. refl), (goes-none 𝓤 H A W 3 (λ _. u16) yes (λ κs x f. refl), tt)))))) (this.clauses 𝓤 H A mem run)
       (WpFn 𝓤 H (𝓣 .C) (𝓣 .Λ) this-code.function) (WpFn-mono 𝓤 H (W .laws) 𝓣 this-code.function) (emit-walks 𝓣 known-number-states known-plan-length known-fits known-name-count known-write-plan known-with-counts)
 
@@ -180,9 +180,9 @@ emit-spec 𝓤 H 𝓜 𝓖 𝓡 =
     entered 𝓤 H (tripleOf 𝓤 H (𝓖 .A) this.signature (this.spec 𝓤 H (𝓖 .A) (𝓜 .mem) (𝓡 .run)))
     (tables 𝓤 H 𝓜 𝓡 this-code.env .C) (tables 𝓤 H 𝓜 𝓡 this-code.env .Λ) #connect·emit this-code.function (this-code.unfolded 𝓤 H 𝓜 𝓡)
     (emit-meets 𝓤 H (𝓖 .A) (givenOf 𝓤 H 𝓜 𝓖) (𝓜 .mem) (𝓡 .run) (tablesOf 𝓤 H 𝓜 (tables 𝓤 H 𝓜 𝓡 this-code.env))
-    (cited 𝓤 H (number-states-contract 𝓤 H (𝓖 .A) (𝓜 .mem) (𝓡 .run)) 𝓜 𝓡 this-code.env #numbering·number·number-states number-states-def.routine this-code.calls-numbering·number·number-states (number-states-thm.met 𝓤 H 𝓜 𝓖 𝓡))
-    (cited 𝓤 H (plan-length-contract 𝓤 H (𝓖 .A) (𝓜 .mem) (𝓡 .run)) 𝓜 𝓡 this-code.env #numbering·write·plan-length plan-length-def.routine this-code.calls-numbering·write·plan-length (plan-length-thm.met 𝓤 H 𝓜 𝓖 𝓡))
+    (cited 𝓤 H (number-states-contract 𝓤 H (𝓖 .A) (𝓜 .mem) (𝓡 .run)) 𝓜 𝓡 this-code.env #numbering·number-states number-states-def.routine this-code.calls-numbering·number-states (number-states-thm.met 𝓤 H 𝓜 𝓖 𝓡))
+    (cited 𝓤 H (plan-length-contract 𝓤 H (𝓖 .A) (𝓜 .mem) (𝓡 .run)) 𝓜 𝓡 this-code.env #numbering·plan-length plan-length-def.routine this-code.calls-numbering·plan-length (plan-length-thm.met 𝓤 H 𝓜 𝓖 𝓡))
     (cited 𝓤 H (fits-contract 𝓤 H (𝓖 .A) (𝓜 .mem) (𝓡 .run)) 𝓜 𝓡 this-code.env #connect·fits fits-def.routine this-code.calls-connect·fits (fits-thm.met 𝓤 H 𝓜 𝓖 𝓡))
     (cited 𝓤 H (name-count-contract 𝓤 H (𝓖 .A) (𝓜 .mem) (𝓡 .run)) 𝓜 𝓡 this-code.env #sheet·name-count name-count-def.routine this-code.calls-sheet·name-count (name-count-thm.met 𝓤 H 𝓜 𝓖 𝓡))
-    (cited 𝓤 H (write-plan-contract 𝓤 H (𝓖 .A) (𝓜 .mem) (𝓡 .run)) 𝓜 𝓡 this-code.env #numbering·write·write-plan write-plan-def.routine this-code.calls-numbering·write·write-plan (write-plan-thm.met 𝓤 H 𝓜 𝓖 𝓡))
+    (cited 𝓤 H (write-plan-contract 𝓤 H (𝓖 .A) (𝓜 .mem) (𝓡 .run)) 𝓜 𝓡 this-code.env #numbering·write-plan write-plan-def.routine this-code.calls-numbering·write-plan (write-plan-thm.met 𝓤 H 𝓜 𝓖 𝓡))
     (cited 𝓤 H (with-counts-contract 𝓤 H (𝓖 .A) (𝓜 .mem) (𝓡 .run)) 𝓜 𝓡 this-code.env #connect·with-counts with-counts-def.routine this-code.calls-connect·with-counts (with-counts-thm.met 𝓤 H 𝓜 𝓖 𝓡)))
