@@ -20,6 +20,7 @@ pub mod ClientCheck
 pub mod Run
 pub mod Refusals
 pub mod Connect
+pub mod Unused
 pub mod Demand1
 pub mod Demand2
 pub mod Demand3
