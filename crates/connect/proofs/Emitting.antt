@@ -1,6 +1,6 @@
 -- The plan of what stays: its length decides between 13 and acceptance, and is known before a byte is written.
 -- Assumes nothing.
-use mathlib.Core.Path.{_≡_, refl, sym, ap, subst⁻¹, _∙_}
+use mathlib.Core.Path.{_≡_, sym, ap, subst, subst⁻¹, _∙_}
 use mathlib.Core.Bool.{Bool, true, false}
 use mathlib.Core.List.{List, []}
 use Prim.Native.Nat.{ℕ, _≤_, _<_}
@@ -8,7 +8,6 @@ use native.Mathlib.Omega.{arith}
 use lib.ListN.{length, length-map}
 use lib.Dec.{eqb, leb}
 use borrow.Author.Tests.{le-leb, lt-leb, leb-true, leb-false}
-use Rattle.model.specs.Contract.{Contract}
 use Rattle.model.specs.Situation.{codes}
 use Rattle.model.specs.Plan.{Move, rowOf, planStates, planRows, planBytes}
 use Rattle.model.specs.Sheet.{contractIn}
@@ -37,30 +36,24 @@ writes-none number situations states rounds r plan a = record { answer = a; writ
 
 -- ---- the length decides
 
-module _ (k : ℕ) (σ τ : Contract) (n situations states rounds size : ℕ) (rows : List (List Move)) (r : Answer) (plan : List ℕ)
-    (is-n : n ≡ σ .n) (size-is : size ≡ length (planBytes n k rows)) (is-states : states ≡ length rows) where
-  is-size : size ≡ length (planBytes (σ .n) k rows)
-  is-size = size-is ∙ ap (λ (n : ℕ). length (planBytes n k rows)) is-n
-
+module _ (k n situations states rounds size : ℕ) (rows : List (List Move)) (r : Answer) (plan : List ℕ)
+    (size-is : size ≡ length (planBytes n k rows)) (is-states : states ≡ length rows) where
   emit-short : length plan < size
       → answerOf r ≡ counting 13 situations states rounds 0
-      → Writes (emitted k σ τ (length plan) situations rounds rows) r plan plan
+      → Writes (emitted n k (length plan) situations rounds rows) r plan plan
   unfolding emitted counting
   emit-short h a =
-      rw (lt-leb (length (planBytes (σ .n) k rows)) (length plan) (omega (arith, is-size)))
+      rw (lt-leb (length (planBytes n k rows)) (length plan) (omega (arith, size-is)))
       (writes-none 13 situations (length rows) rounds r plan
       (a ∙ (λ i. counting 13 situations (is-states i) rounds (0))))
 
   emit-fits : (plan′ : List ℕ) → size ≤ length plan
       → answerOf r ≡ counting 0 situations states rounds size
-      → plan′ ≡ front (planBytes n k rows) plan → Writes (emitted k σ τ (length plan) situations rounds rows) r plan plan′
+      → plan′ ≡ front (planBytes n k rows) plan → Writes (emitted n k (length plan) situations rounds rows) r plan plan′
   unfolding emitted counted counting
   emit-fits plan′ h a w =
-      rw (le-leb (length (planBytes (σ .n) k rows)) (length plan) (omega (arith, is-size)))
-      (record {
-        answer = a ∙ (λ i. counting 0 situations (is-states i) rounds (is-size i));
-        written = w ∙ ap (λ (n : ℕ). front (planBytes n k rows) plan) is-n;
-      })
+      rw (le-leb (length (planBytes n k rows)) (length plan) (omega (arith, size-is)))
+      (record { answer = a ∙ (λ i. counting 0 situations (is-states i) rounds (size-is i)); written = w })
 
 -- ---- the records after the numbering
 
@@ -102,14 +95,15 @@ module _ (k : ℕ) (old : List ℕ) (count rounds : ℕ) (ys : List Record) {sta
 
       pub plan-emitted : {n : ℕ} {plan′ : List ℕ} {r : Answer} → n ≡ contractIn old .n → plan′ ≡ front (planBytes n k (rowsIn (linksOf ys′) (marksOf ys′) count)) plan
           → answerOf r ≡ counting 0 count states rounds size
-          → (τ : Contract) → Writes (emitted k (contractIn old) τ (length plan) count rounds (rowsIn (linksOf ys) (marksOf ys) count)) r plan plan′
-      plan-emitted {n} {plan′} {r} n-is written a τ =
-          emit-fits k (contractIn old) τ n count states rounds size (rowsIn (linksOf ys) (marksOf ys) count) r plan n-is (size-same n) states-are plan′ fitting a
-          (written ∙ ap (λ (rows : List (List Move)). front (planBytes n k rows) plan) rows-same)
+          → Writes (emitted (contractIn old .n) k (length plan) count rounds (rowsIn (linksOf ys) (marksOf ys) count)) r plan plan′
+      plan-emitted {n} {plan′} {r} n-is written a =
+          subst (λ (n : ℕ). Writes (emitted n k (length plan) count rounds (rowsIn (linksOf ys) (marksOf ys) count)) r plan plan′) n-is
+          (emit-fits k n count states rounds size (rowsIn (linksOf ys) (marksOf ys) count) r plan (size-same n) states-are plan′ fitting a
+          (written ∙ ap (λ (rows : List (List Move)). front (planBytes n k rows) plan) rows-same))
 
     pub plan-refused : {r : Answer} → enough ≡ false
         → answerOf r ≡ counting 13 count states rounds 0
-        → (τ : Contract) → Writes (emitted k (contractIn old) τ (length plan) count rounds (rowsIn (linksOf ys) (marksOf ys) count)) r plan plan
-    plan-refused {r} lacking a τ =
-        emit-short k (contractIn old) τ (contractIn old .n) count states rounds size (rowsIn (linksOf ys) (marksOf ys) count) r plan refl (size-same (contractIn old .n)) states-are
+        → Writes (emitted (contractIn old .n) k (length plan) count rounds (rowsIn (linksOf ys) (marksOf ys) count)) r plan plan
+    plan-refused {r} lacking a =
+        emit-short k (contractIn old .n) count states rounds size (rowsIn (linksOf ys) (marksOf ys) count) r plan (size-same (contractIn old .n)) states-are
         (leb-false size (length plan) (sym enough-is ∙ lacking)) a

@@ -69,12 +69,12 @@ module _ (k : ℕ) (σ τ : Contract) (keys links : List ℕ) (count room rounds
   unfolding relatedIn
   related-removed n = rw (start-stays, ne-eqb (getD marks′ 0 0) 0 n) (ap (λ (r : ℕ). counted 12 count 0 r []) (sym (done .rounds-are)))
 
-  related-kept : getD marks′ 0 0 ≡ 0 → relatedIn k σ τ keys links count room ≡ emitted k σ τ room count rounds (rowsIn links marks′ count)
+  related-kept : getD marks′ 0 0 ≡ 0 → relatedIn k σ τ keys links count room ≡ emitted (σ .n) k room count rounds (rowsIn links marks′ count)
   unfolding relatedIn rowsIn
   related-kept e =
       let r = sym (done .rounds-are) in
       let kept = sym (done .kept-are) in
-      rw (start-stays, eq-eqb (getD marks′ 0 0) 0 e) (λ i. emitted k σ τ room count (r i) (planRows eqb codes (nextIn links) (kept i) 0))
+      rw (start-stays, eq-eqb (getD marks′ 0 0) 0 e) (λ i. emitted (σ .n) k room count (r i) (planRows eqb codes (nextIn links) (kept i) 0))
 
 -- ---- the masks that the rounds leave
 
@@ -152,10 +152,10 @@ module _ (k : ℕ) (old new : List ℕ) (count rounds : ℕ) (ys : List Record) 
 
       -- 13 or acceptance
       pub relate-kept : (r : Answer) (plan plan′ : List ℕ)
-          → ((τ : Contract) → Writes (emitted k (contractIn old) τ (length plan) count rounds (rowsIn (linksOf ys′) (marksOf ys′) count)) r plan plan′)
+          → Writes (emitted (contractIn old .n) k (length plan) count rounds (rowsIn (linksOf ys′) (marksOf ys′) count)) r plan plan′
           → Writes (relatedIn k (contractIn old) (contractIn new) (keysOf ys) (linksOf ys) count (length plan)) r plan plan′
       relate-kept r plan plan′ w =
           subst⁻¹ (λ (o : Outcome). Writes o r plan plan′)
           (related-kept k (contractIn old) (contractIn new) (keysOf ys) (linksOf ys) count (length plan) rounds (marksOf ys) (marksOf ys′) (settled .done) some (start-mark ∙ kept))
-          (subst (λ (links : List ℕ). Writes (emitted k (contractIn old) (contractIn new) (length plan) count rounds (rowsIn links (marksOf ys′) count)) r plan plan′)
-          (settled .links) (w (contractIn new)))
+          (subst (λ (links : List ℕ). Writes (emitted (contractIn old .n) k (length plan) count rounds (rowsIn links (marksOf ys′) count)) r plan plan′)
+          (settled .links) w)

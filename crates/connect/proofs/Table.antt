@@ -206,4 +206,4 @@ module _ (k : ℕ) (σ τ : Contract) (limit : ℕ) where
         let rounds : left .rounds ≡ settledOf k σ τ done .rounds = ap (λ (r : Settled Situation). r .rounds) (sym settled-table) in
         let rows = sym rows-table in
         let stays = sym start-table in
-        λ i. cond (stays i) (emitted k σ τ room count (rounds i) (rows i)) (counted 12 count 0 (rounds i) [])
+        λ i. cond (stays i) (emitted (σ .n) k room count (rounds i) (rows i)) (counted 12 count 0 (rounds i) [])

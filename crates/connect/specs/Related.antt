@@ -16,5 +16,5 @@ use Rattle.rounds.specs.Settled.{settledIn}
 unfoldable pub relatedIn : (k : ℕ) → Contract → Contract → (keys links : List ℕ) → (count room : ℕ) → Outcome
 relatedIn k σ τ keys links count room =
     let left = settledIn σ τ keys links count in
-    cond (member eqb 0 (left .kept)) (emitted k σ τ room count (left .rounds) (planRows eqb codes (nextIn links) (left .kept) 0))
+    cond (member eqb 0 (left .kept)) (emitted (σ .n) k room count (left .rounds) (planRows eqb codes (nextIn links) (left .kept) 0))
     (counted 12 count 0 (left .rounds) [])

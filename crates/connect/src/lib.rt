@@ -4,7 +4,6 @@ ghost use mathlib.Core.Path.{_≡_};
 ghost use Prim.Native.Nat.{_≤_, _<_};
 ghost use lib.ListN.{length};
 ghost use lib.Dec.{leb};
-ghost use Rattle.model.specs.Contract.{Contract};
 ghost use Rattle.model.specs.Sheet.{contractIn};
 ghost use Rattle.model.specs.Connect.{emitted, connected, limitOf, connectOf};
 ghost use Rattle.sheet.specs.Whole.{IsSheet};
@@ -112,7 +111,7 @@ fn emit(
     rounds: u16,
 ) -> Answer
     requires { ⌜ IsSheet (now old) × WorkLists count (linksOf (now work)) (marksOf (now work)) × Shown count (linksOf (now work)) (marksOf (now work)) (presentOf (now work)) × Unnumbered count (now work) ⌝ }
-    ensures { λ r. ⌜ ((τ : Contract) → Writes (emitted k (contractIn (now (old .entry))) τ (length (now (plan .entry))) count rounds (rowsIn (linksOf (now (work .entry))) (marksOf (now (work .entry))) count)) r (now (plan .entry)) (now (plan .exit))) ⌝ }
+    ensures { λ r. ⌜ Writes (emitted (contractIn (now (old .entry)) .n) k (length (now (plan .entry))) count rounds (rowsIn (linksOf (now (work .entry))) (marksOf (now (work .entry))) count)) r (now (plan .entry)) (now (plan .exit)) ⌝ }
 {
     let states = numbering::number_states(work, count);
     let length = numbering::plan_length(work, count, states);

@@ -45,6 +45,12 @@ counted number situations states rounds bytes =
       bytes = bytes;
     }
 
+-- 13, "the plan is longer than the lent plan", or acceptance; "for 13 all are real"
+unfoldable pub emitted : (n k room situations rounds : ℕ) → List (List Move) → Outcome
+emitted n k room situations rounds rows =
+    let bytes = planBytes n k rows in
+    cond (leb (length bytes) room) (counted 0 situations (length rows) rounds bytes) (counted 13 situations (length rows) rounds [])
+
 module _ (k : ℕ) (old new : Contract) where
   -- what never leaves, and the rounds figure
   unfoldable pub settledOf : List Situation → Settled Situation
@@ -54,17 +60,11 @@ module _ (k : ℕ) (old new : Contract) where
   unfoldable pub rowsFor : List Situation → List (List Move)
   rowsFor kept = planRows same codes (next (alike k) old new) kept start
 
-  -- 13, "the plan is longer than the lent plan", or acceptance; "for 13 all are real"
-  unfoldable pub emitted : (room situations rounds : ℕ) → List (List Move) → Outcome
-  emitted room situations rounds rows =
-      let bytes = planBytes (old .n) k rows in
-      cond (leb (length bytes) room) (counted 0 situations (length rows) rounds bytes) (counted 13 situations (length rows) rounds [])
-
   -- 12, "the start is removed", or what follows; "for 12 the plan states are 0"
   unfoldable pub related : (room : ℕ) → List Situation → Outcome
   related room reached =
       let left = settledOf reached in
-      cond (member same start (left .kept)) (emitted room (length reached) (left .rounds) (rowsFor (left .kept)))
+      cond (member same start (left .kept)) (emitted (old .n) k room (length reached) (left .rounds) (rowsFor (left .kept)))
       (counted 12 (length reached) 0 (left .rounds) [])
 
   -- 11, "reached situations exceed the lent records or 4,096": the search was cut off. Or what follows.

@@ -42,7 +42,6 @@ use Rattle.connect.proofs.with_counts.Symbol.{name as #connect·with-co
 use Rattle.connect.proofs.with_counts.Met as with-counts-thm
 use Rattle.connect.specs.Answers.{Writes, answerOf, counting}
 use Rattle.connect.proofs.Emitting.{numbered-lists, numbered-shown, numbered-states, plan-emitted, plan-fits, plan-refused}
-use Rattle.model.specs.Contract.{Contract as Contract′}
 use Rattle.model.specs.Connect.{emitted}
 use Rattle.situations.proofs.Record as Record-row
 use Rattle.situations.specs.declared.Record.{Record}
@@ -103,7 +102,7 @@ module _ {M : Type 1} (𝓤 : URA M) (H : Heap 𝓤) (A : Atoms 𝓤) (W : Given
   Ends = walkOf 𝓤 H A this.ended stayed (this.clauses 𝓤 H A mem run) .post (((κ-old, (κ-work, (κ-plan, tt))), (q-old, (q-work, (q-plan, tt))), tt, args, machine), tt)
 
   -- what is had at an exit
-  exits : (r : Answer) (work′ : List Record) (plan′ : List ℕ) (is-res : Is Answer-row.the-row r (Answer-laws.lowered r ∷ [])) (long-work : length work′ ≡ length work) (long-plan : length plan′ ≡ length plan) (said : ((τ : Contract′) → Writes (emitted k (contractIn (old)) τ (length (plan)) count rounds (rowsIn (linksOf (work)) (marksOf (work)) count)) r (plan) (plan′))) → ent 𝓤 (⋆ 𝓤 H A (‵ (ShrSlice (named 0) κ-old u8 .own (lentAt b-old o-old γ-old old) (s-old ∷ [])) ∷ ‵ (flft κ-old q-old) ∷ ‵ (MutSlice (named 1) κ-work Record-row.the-row .own (lentAt b-work o-work γ-work work′) (s-work ∷ [])) ∷ ‵ (flft κ-work q-work) ∷ ‵ (MutSlice (named 2) κ-plan u8 .own (lentAt b-plan o-plan γ-plan plan′) (s-plan ∷ [])) ∷ ‵ (flft κ-plan q-plan) ∷ [])) (Ends (Answer-laws.lowered r))
+  exits : (r : Answer) (work′ : List Record) (plan′ : List ℕ) (is-res : Is Answer-row.the-row r (Answer-laws.lowered r ∷ [])) (long-work : length work′ ≡ length work) (long-plan : length plan′ ≡ length plan) (said : Writes (emitted (contractIn (old) .n) k (length (plan)) count rounds (rowsIn (linksOf (work)) (marksOf (work)) count)) r (plan) (plan′)) → ent 𝓤 (⋆ 𝓤 H A (‵ (ShrSlice (named 0) κ-old u8 .own (lentAt b-old o-old γ-old old) (s-old ∷ [])) ∷ ‵ (flft κ-old q-old) ∷ ‵ (MutSlice (named 1) κ-work Record-row.the-row .own (lentAt b-work o-work γ-work work′) (s-work ∷ [])) ∷ ‵ (flft κ-work q-work) ∷ ‵ (MutSlice (named 2) κ-plan u8 .own (lentAt b-plan o-plan γ-plan plan′) (s-plan ∷ [])) ∷ ‵ (flft κ-plan q-plan) ∷ [])) (Ends (Answer-laws.lowered r))
   exits r work′ plan′ is-res long-work long-plan said =
       qed W (‵ (ShrSlice (named 0) κ-old u8 .own (lentAt b-old o-old γ-old old) (s-old ∷ [])) ∷ ‵ (flft κ-old q-old) ∷ ‵ (MutSlice (named 1) κ-work Record-row.the-row .own (lentAt b-work o-work γ-work work′) (s-work ∷ [])) ∷ ‵ (flft κ-work q-work) ∷ ‵ (MutSlice (named 2) κ-plan u8 .own (lentAt b-plan o-plan γ-plan plan′) (s-plan ∷ [])) ∷ ‵ (flft κ-plan q-plan) ∷ []) ∵
       suffices ! _ (ends-at 𝓤 H A this.ended stayed (this.clauses 𝓤 H A mem run) W (((κ-old, (κ-work, (κ-plan, tt))), (q-old, (q-work, (q-plan, tt))), tt, args, machine), tt) (Answer-laws.lowered r) r (tt, (tt, (work′, (plan′, (tt, (tt, tt)))))) (tt, (tt, (long-work, (long-plan, (tt, (tt, tt))))))) $ says ! said $
