@@ -1,28 +1,23 @@
 -- "Unused names have 0": in a reached situation no message waits whose name is none of the contracts'.
 -- Assumes nothing.
-use mathlib.Core.Path.{_≡_, refl, sym, ap, subst⁻¹, _∙_}
+use mathlib.Core.Path.{_≡_, sym, ap, subst⁻¹, _∙_}
 use mathlib.Core.Bool.{Bool, true, false, cond}
 use mathlib.Core.Logic.{_≢_}
 use mathlib.Core.List.{List}
 use mathlib.Core.Option.{Option, some, Option·some-injective, Option·none-ne-some}
-use Prim.Native.Nat.{ℕ, zero, suc, _-_, _≤_, _<_}
+use Prim.Native.Nat.{ℕ, suc, _-_, _≤_, _<_}
 use native.Mathlib.Omega.{arith}
-use lib.ListN.{getD, set, replicate}
+use lib.ListN.{getD, set, getD-replicate}
 use lib.Seq.{getD-set-other}
 use lib.Dec.{T, ltb}
 use Rattle.model.specs.Contract.{Contract, name, takes, state}
 use Rattle.model.specs.Situation.{Situation, start, alike, Kind, straight, client, service, stray, kindOf, raised, lowered, bufferAfter, offered, next}
-use Rattle.model.specs.Search.{Reached, at-start, by-move}
+use Rattle.model.specs.Search.{at-start, by-move}
 use Rattle.model.specs.Demands.{IsReached}
 use Rattle.model.proofs.Lists.{cond-some}
 use Rattle.model.proofs.Ranges.{OfAction, kind-action}
-use Rattle.model.proofs.Moves.{Enabled, enabled}
+use Rattle.model.proofs.Moves.{enabled}
 use Rattle.model.proofs.Sheet.{WellFormed}
-
-none-waits : (n i : ℕ) → _≡_ {A = ℕ} (getD (replicate n 0) i 0) 0
-none-waits zero i = refl
-none-waits (suc n) zero = refl
-none-waits (suc n) (suc i) = none-waits n i
 
 -- a count of another action stays
 module _ (limits b b′ : List ℕ) (i j : ℕ) (other : i ≢ j) where
@@ -43,7 +38,7 @@ module _ (limits b b′ : List ℕ) (i j : ℕ) (other : i ≢ j) where
   either-other true o p f g e = f e
   either-other false o p f g e = g e
 
-module _ (k : ℕ) (σ τ : Contract) (σ-formed : WellFormed σ) (τ-formed : WellFormed τ) (same-n : σ .n ≡ τ .n) (i : ℕ) (beyond : σ .n ≤ name i) where
+module _ (k : ℕ) (σ τ : Contract) (σ-formed : WellFormed σ) (τ-formed : WellFormed τ) (same-n : σ .n ≡ τ .n) (i : ℕ) (action : i < 14) (beyond : σ .n ≤ name i) where
   -- an action of the contracts is another one
   another : (j : ℕ) → name j < σ .n → i ≢ j
   another j h e = absurd (omega (arith, beyond, h, ap name e))
@@ -65,7 +60,7 @@ module _ (k : ℕ) (σ τ : Contract) (σ-formed : WellFormed σ) (τ-formed : W
   -- the count of an action whose name is beyond those of the contracts
   pub unused-empty : {s : Situation} → IsReached k σ τ s → getD (s .buffer) i 0 ≡ 0
   unfolding start next
-  unused-empty (at-start e) = subst⁻¹ (λ (s : Situation). getD (s .buffer) i 0 ≡ 0) e (none-waits 14 i)
+  unused-empty (at-start e) = subst⁻¹ (λ (s : Situation). getD (s .buffer) i 0 ≡ 0) e (getD-replicate 14 i 0 0 action)
   unused-empty (by-move {s = s} {t = t} code m x r) =
       let w = enabled (alike k) σ τ s t (kindOf code) x in
       stays s (t .buffer) (kindOf code) (kind-action code) (w .offers) (w .counts) ∙ unused-empty r
