@@ -1,7 +1,7 @@
 /*
  * Connecting two service contracts, stepping a plan, checking a client against a service: the proved library for C and C++.
  *
- * `rt staticlib capi` proves the library and writes it to target/staticlib/libcapi.a, for x86-64 Linux. It needs nothing else but memcpy and
+ * `rt staticlib adapter` proves the library and writes it to target/staticlib/libadapter.a, for x86-64 Linux. It needs nothing else but memcpy and
  * memset of the C library. examples/c is a program that uses it. The rules, sheets and plans are those of document 01; the words in quotation
  * marks below are taken from it.
  *

@@ -29,11 +29,11 @@ KINDS = {
 
 #: The kinds that a test program runs, and its crate.
 STORED = {
-    "sheets": Path("crates/sheet_run"),
-    "pairs": Path("crates/pair_run"),
-    "steps": Path("crates/step_run"),
-    "clients": Path("crates/client_run"),
-    "runs": Path("crates/walk_run"),
+    "sheets": Path("crates/sheet_cases"),
+    "pairs": Path("crates/pair_cases"),
+    "steps": Path("crates/step_cases"),
+    "clients": Path("crates/client_cases"),
+    "runs": Path("crates/run_cases"),
 }
 
 

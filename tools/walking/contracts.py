@@ -15,6 +15,23 @@ def joined(ws):
     return re.sub(r' ([),;}])', r'\1', re.sub(r'([({]) ', r'\1', text))
 
 
+CLAUSE = re.compile(r'\s*(requires|ensures)(?: (\w+))? \{\s*(?:λ (\S+?)\. )?⌜ (.*?) ⌝\s*\}', re.S)
+
+
+def clauses(text):
+    """The clauses that a text begins with: those of `requires`, name and fact, and those of `ensures`, name, result's name and fact."""
+    needs, gives, at = [], [], 0
+    while m := CLAUSE.match(text, at):
+        kind, name, bound, fact = m.groups()
+        fact = ' '.join(fact.split())
+        if kind == 'requires':
+            needs.append((name, fact))
+        else:
+            gives.append((name, bound, fact))
+        at = m.end()
+    return needs, gives
+
+
 class Source:
     """A crate's functions, structs and imports, as its src has them."""
 
@@ -33,7 +50,7 @@ class Source:
             self.structs[name] = re.findall(r'pub (\w+): ([^,]+),', body + ',')
             self.modules[name] = inside.replace('::', '.')
         marks = [(m.start(), m.group(1)) for m in re.finditer(r'^impl (\w+)', text, re.M)]
-        for m in re.finditer(r'^( *)(?:pub )?(?:extern "C" )?fn (\w+)\(([^)]*)\)(?: -> ([^\n{]+?))?\s*\n((?:\s+(?:requires|ensures)[^\n]*\n)*)', text, re.M):
+        for m in re.finditer(r'^( *)(?:pub )?(?:extern "C" )?fn (\w+)\(([^)]*)\)(?: -> ([\w:\[\]; ]+?))?\s*(?=[{]|requires|ensures)', text, re.M):
             owner = [t for at, t in marks if at < m.start()]
             name = inside + (f'{owner[-1]}::{m.group(2)}' if m.group(1) and owner else m.group(2))
             if m.group(0).split('fn ')[0].strip() == 'pub':
@@ -45,9 +62,8 @@ class Source:
                 else:
                     params.append(tuple(x.strip() for x in p.split(':', 1)))
             params = [(a, re.sub(r'\s+', ' ', b)) for a, b in params]
-            needs = re.search(r'requires [^\n]*?⌜ (.*) ⌝', m.group(5))
-            gives = re.findall(r'ensures [^\n]*?λ (\S+?)\. ⌜ (.*) ⌝', m.group(5))
-            self.functions[name] = (params, (m.group(4) or '()').strip(), needs and needs.group(1), gives)
+            needs, gives = clauses(text[m.end():])
+            self.functions[name] = (params, (m.group(4) or '()').strip(), needs, gives)
 
 
 sources = {}
@@ -167,13 +183,15 @@ class Table(Param):
 
 class Signature:
     def __init__(self, crate, name):
-        params, result, self.needs, gives = source(crate).functions[name]
+        params, result, needs, gives = source(crate).functions[name]
         self.crate, self.name = crate, name
         self.params = [Param(crate, n, t) for n, t in params]
         self.result = Value(crate, result)
-        if len(gives) != 1:
-            sys.exit(f'walk: {name} has {len(gives)} clauses `ensures`, one is wanted')
-        self.bound, self.gives = gives[0]
+        if len(needs) > 1 or len(gives) != 1:
+            sys.exit(f'walk: {name} has {len(needs)} clauses `requires` and {len(gives)} `ensures`')
+        needed, self.needs = needs[0] if needs else (None, None)
+        self.needed = (needed or 'needed').replace('_', '-')
+        _, self.bound, self.gives = gives[0]
         self.refs = [p for p in self.params if p.slice]
 
     def index(self, p):
@@ -195,12 +213,12 @@ class Signature:
 
     # the module of the step of a call of it, in a walk of the crate, and the file if that is the crate's own
     def step(self, crate):
-        name = ''.join(x.capitalize() for x in re.split(r'_|::', self.name)) + 'Call'
+        name = ''.join(x.capitalize() for x in re.split(r'_|::', self.name))
         if self.crate != crate:
-            if Path('crates', self.crate, 'proofs', name + '.antt').exists():
-                return f'Rattle.{self.crate}.proofs.{name}', None
+            if Path('crates', self.crate, 'proofs', 'calls', name + '.antt').exists():
+                return f'Rattle.{self.crate}.proofs.calls.{name}', None
             name = self.crate.capitalize() + name
-        return f'Rattle.{crate}.proofs.{name}', name
+        return f'Rattle.{crate}.proofs.calls.{name}', name
 
     def said(self, clause, entry, end, values, result=None):
         """A clause with its words for parameters and result replaced."""

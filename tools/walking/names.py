@@ -2,13 +2,16 @@
 import re
 from pathlib import Path
 
-# the crate whose proofs/ has what walks share
-HOME = 'situations'
-SHARED = ('Logic', 'Walk', 'Freed', 'Lent', 'Rest', 'Front', 'LocalTable', 'Elements', 'Places')
+# the crate whose proofs/ has what walks share, and its files
+HOME = 'walks'
+SHARED = ('Logic', 'Branches', 'Freed', 'Lent', 'Rest', 'Front', 'LocalTable', 'Elements', 'Places')
+# the crate of the records
+TABLE = 'table'
 
 
-def home_of(crate):
-    return f'Rattle.{HOME}.proofs' if crate == HOME else f'Rattle.{HOME}.proofs'
+def proofs_of(owner, crate):
+    """The proofs of a crate, as a walk of another or of the same names them."""
+    return f'Rattle.{owner}.proofs' if crate == owner else f'Rattle.{owner}.proofs'
 
 
 def library():

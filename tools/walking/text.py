@@ -3,7 +3,7 @@ import re
 from pathlib import Path
 
 from walking.contracts import source, words_of
-from walking.names import home_of, library, taken
+from walking.names import HOME, library, proofs_of, taken
 
 
 def par(t):
@@ -45,7 +45,7 @@ def imports(body, crate, more):
     for w in re.findall(r'[^\s(){},;]+', body):
         used |= {w, w.rstrip('.'), w.split('.')[0]}
     lines, seen = [], set()
-    table = [(f'{home_of(crate)}.{module}', names) for module, names in library()] + [('denote.Struct.Laws as LL', None), ('borrow.Struct.Behind as Behind', None)]
+    table = [(f'{proofs_of(HOME, crate)}.{module}', names) for module, names in library()] + [('denote.Struct.Laws as LL', None), ('borrow.Struct.Behind as Behind', None)]
     table += [(m, sorted(n) if n else None) for m, n in more]
     for module, names in table:
         if names is None:

@@ -8,7 +8,7 @@ from walking.code import code_of, items, statements
 from walking.contracts import Signature, source
 from walking.elements import Elements
 from walking.looping import Looping
-from walking.names import home_of, library
+from walking.names import TABLE, library, proofs_of
 from walking.page import Page
 from walking.state import Local, State
 from walking.step import call_step
@@ -97,7 +97,7 @@ class Walk(Steps, Elements, Tables, Calling, Looping, Terms):
         fact = f.said(f.gives, entry, end, values, result)
         tele = [f'(κ-{p.plain} : Lft) (q-{p.plain} : Share) (b-{p.plain} o-{p.plain} : ℕ) (γ-{p.plain} : GName) ({p.name} : List {par(p.value.denot)})' if p.slice else f'({p.name} : {p.value.denot})' for p in f.params]
         tele += [f'(room-{p.plain} : Room {par(p.value.row)} (length {p.name}))' if p.slice else f'({p.value.label()}-{p.plain} : {p.value.evidence(p.name)})' for p in f.params if p.slice or p.value.name != 'bool']
-        tele += [f'(needed : {needs})'] if needs else []
+        tele += [f'({f.needed} : {needs})'] if needs else []
         given = []
         for p in f.params:
             j = f.index(p)
@@ -216,19 +216,22 @@ unfolding this-code.routine tablesOf
             m = re.match(r'use ([^{]+)\.\{(.*)\}$', u)
             more.append({m.group(1): set(x.strip() for x in m.group(2).split(','))})
         more += [{'lib.ListN': {'replicate'}}, clause_uses(f, self.crate)] + [v.uses(self.crate) for v in self.values]
-        more.append({f'{home_of(self.crate)}.Records': {'offset-fits'}})
+        more.append({f'{proofs_of(TABLE, self.crate)}.Records': {'offset-fits'}})
         file = self.name.replace('::', '/')
         text = f'-- `{self.crate}::{self.name}` meets its contract: a walk of its code, written by tools/walk from walks/{file}.walk.\n-- Assumes nothing.\n'
         target = Path('crates', self.crate, 'proofs', file, 'Proof.antt')
         target.parent.mkdir(parents=True, exist_ok=True)
         target.write_text(text + imports(body, self.crate, merged(*more)) + '\n' + body)
+        calls = Path('crates', self.crate, 'proofs', 'calls')
         for g in [*self.callees.values(), f]:
             name = g.step(self.crate)[1]
             # of a function that only its own crate can call, the caller's walk writes the step
-            if not name or g is f and f.name not in source(self.crate).public and not Path('crates', self.crate, 'proofs', name + '.antt').exists():
+            if not name or g is f and f.name not in source(self.crate).public and not (calls / (name + '.antt')).exists():
                 continue
-            Path('crates', self.crate, 'proofs', name + '.antt').write_text(call_step(g, self.crate))
-            lib = Path('crates', self.crate, 'proofs', 'Lib.antt')
-            line = f'pub mod {name}'
-            if line not in lib.read_text().splitlines():
-                lib.write_text(lib.read_text().rstrip('\n') + '\n' + line + '\n')
+            calls.mkdir(exist_ok=True)
+            (calls / (name + '.antt')).write_text(call_step(g, self.crate))
+        if calls.exists():
+            calls.with_suffix('.antt').write_text(''.join(f'pub mod {file.stem}\n' for file in sorted(calls.glob('*.antt'))))
+            lib = calls.with_name('Lib.antt')
+            if 'pub mod calls' not in lib.read_text().splitlines():
+                lib.write_text(lib.read_text() + 'pub mod calls\n')

@@ -20,14 +20,14 @@ use Rattle.model.proofs.Sheet.{WellFormed}
 use Rattle.sheet.specs.Whole.{IsSheet}
 use Rattle.sheet.proofs.Whole.{sheet-formed}
 use Rattle.plan.proofs.Front.{front-none}
-use Rattle.table.specs.Keys.{KeysWithin}
-use Rattle.table.specs.Links.{LinksWithin}
-use Rattle.table.proofs.Keys.{Fits}
-use Rattle.situations.specs.declared.Record.{Record}
-use Rattle.table.specs.Masks.{Filled}
-use Rattle.situations.specs.Lists.{keysOf, linksOf, presentOf}
-use Rattle.situations.specs.Fresh.{Fresh}
-use Rattle.situations.proofs.Lists.{keys-length}
+use Rattle.keys.specs.Keys.{KeysWithin}
+use Rattle.keys.specs.Links.{LinksWithin}
+use Rattle.keys.proofs.Keys.{Fits}
+use Rattle.table.specs.declared.Record.{Record}
+use Rattle.keys.specs.Masks.{Filled}
+use Rattle.table.specs.Lists.{keysOf, linksOf, presentOf}
+use Rattle.table.specs.Fresh.{Fresh}
+use Rattle.table.proofs.Lists.{keys-length}
 use Rattle.reached.specs.Reached.{countBy, ExploredWork}
 use Rattle.rounds.specs.Settled.{WorkTable}
 use Rattle.connect.specs.Answers.{answerOf, refusing, Writes}

@@ -14,9 +14,9 @@ use Rattle.model.specs.Sheet.{contractIn}
 use Rattle.model.specs.Connect.{counted, emitted}
 use Rattle.plan.specs.Front.{front}
 use Rattle.plan.proofs.Front.{front-none}
-use Rattle.table.specs.Links.{nextIn, unmarked}
-use Rattle.situations.specs.declared.Record.{Record}
-use Rattle.situations.specs.Lists.{linksOf, marksOf, presentOf, orderOf, numbersOf}
+use Rattle.keys.specs.Links.{nextIn, unmarked}
+use Rattle.table.specs.declared.Record.{Record}
+use Rattle.table.specs.Lists.{linksOf, marksOf, presentOf, orderOf, numbersOf}
 use Rattle.numbering.specs.Kept.{statesIn, rowsIn, WorkLists, Shown}
 use Rattle.numbering.specs.Numbered.{Numbered}
 use Rattle.numbering.specs.Work.{NumberedInto}

@@ -3,14 +3,4 @@ pub mod Emitting
 pub mod Relating
 pub mod Connecting
 pub mod Outcomes
-pub mod WithCountsCall
-pub mod EmitCall
-pub mod RelateCall
-pub mod LimitOfCall
-pub mod RefusalCall
-pub mod WideCall
-pub mod ConnectCheckedCall
-pub mod CheckedCall
-pub mod ConnectCall
-pub mod FitsCall
-pub mod SheetNameCountCall
+pub mod calls

@@ -18,8 +18,8 @@ use Rattle.pair.specs.Pairs.{pairOf}
 use Rattle.pair.specs.declared.Pair.{Pair}
 use Rattle.pair.specs.declared.Pair.the-variants as P
 use Rattle.pair.proofs.Pairs.{refused-both, good-both, both-sheets}
-use Rattle.situations.specs.declared.Record.{Record}
-use Rattle.situations.specs.Records.{blank, cleared}
+use Rattle.table.specs.declared.Record.{Record}
+use Rattle.table.specs.Records.{blank, cleared}
 use Rattle.connect.specs.Answers.{answerOf, refusing, Writes, Checked}
 use Rattle.connect.specs.declared.Answer.{Answer}
 

@@ -16,14 +16,14 @@ use Rattle.model.specs.Rounds.{Settled, stays}
 use Rattle.model.specs.Plan.{planRows}
 use Rattle.model.specs.Sheet.{contractIn}
 use Rattle.model.specs.Connect.{Outcome, counted, emitted}
-use Rattle.table.specs.Links.{linked, nextIn, unmarked, LinksWithin}
+use Rattle.keys.specs.Links.{linked, nextIn, unmarked, LinksWithin}
 use Rattle.rounds.specs.Masks.{MasksLeft}
 use Rattle.sheet.specs.Whole.{IsSheet}
-use Rattle.situations.specs.declared.Record.{Record}
-use Rattle.situations.specs.Records.{blank}
-use Rattle.situations.specs.Lists.{keysOf, linksOf, marksOf, presentOf}
-use Rattle.situations.specs.Fresh.{Fresh}
-use Rattle.situations.proofs.Lists.{marks-length, marks-at, numbers-at}
+use Rattle.table.specs.declared.Record.{Record}
+use Rattle.table.specs.Records.{blank}
+use Rattle.table.specs.Lists.{keysOf, linksOf, marksOf, presentOf}
+use Rattle.table.specs.Fresh.{Fresh}
+use Rattle.table.proofs.Lists.{marks-length, marks-at, numbers-at}
 use Rattle.rounds.specs.Settled.{settledIn, WorkTable, SettledDone}
 use Rattle.rounds.specs.Work.{SettledWork}
 use Rattle.numbering.specs.Kept.{unlessMarked, keptLink, rowsIn, WorkLists, Shown}

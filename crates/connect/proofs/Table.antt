@@ -25,9 +25,9 @@ use Rattle.model.proofs.Situation.{is-same}
 use Rattle.model.proofs.Search.{Inv, search-inv, search-all, search-front}
 use Rattle.model.proofs.PlanRows.{place-at, mem-at}
 use Rattle.model.proofs.Renumber.{Within, Renumbering, settledNamed, settled-renumber, settled-within, plan-rows-renumber, member-renumber}
-use Rattle.table.specs.Keys.{keyOf, situationIn}
-use Rattle.table.specs.Links.{nextIn}
-use Rattle.table.proofs.Keys.{Fits, key-back}
+use Rattle.keys.specs.Keys.{keyOf, situationIn}
+use Rattle.keys.specs.Links.{nextIn}
+use Rattle.keys.proofs.Keys.{Fits, key-back}
 use Rattle.rounds.specs.Settled.{testIn, settledIn}
 use Rattle.connect.specs.Related.{relatedIn}
 

@@ -9,7 +9,7 @@ use Rattle.model.specs.Situation.{codes}
 use Rattle.model.specs.Search.{member}
 use Rattle.model.specs.Plan.{planRows}
 use Rattle.model.specs.Connect.{Outcome, counted, emitted}
-use Rattle.table.specs.Links.{nextIn}
+use Rattle.keys.specs.Links.{nextIn}
 use Rattle.rounds.specs.Settled.{settledIn}
 
 -- 12, "the start is removed", or 13 or acceptance: `related` of the model, for the situations that the lists hold

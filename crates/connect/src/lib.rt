@@ -7,10 +7,10 @@ ghost use lib.Dec.{leb};
 ghost use Rattle.model.specs.Sheet.{contractIn};
 ghost use Rattle.model.specs.Connect.{emitted, connected, limitOf, connectOf};
 ghost use Rattle.sheet.specs.Whole.{IsSheet};
-ghost use Rattle.table.specs.Masks.{Filled};
-ghost use Rattle.situations.specs.Records.{blank};
-ghost use Rattle.situations.specs.Lists.{keysOf, linksOf, marksOf, presentOf};
-ghost use Rattle.situations.specs.Fresh.{Fresh};
+ghost use Rattle.keys.specs.Masks.{Filled};
+ghost use Rattle.table.specs.Records.{blank};
+ghost use Rattle.table.specs.Lists.{keysOf, linksOf, marksOf, presentOf};
+ghost use Rattle.table.specs.Fresh.{Fresh};
 ghost use Rattle.rounds.specs.Settled.{WorkTable};
 ghost use Rattle.numbering.specs.Kept.{WorkLists, Shown, rowsIn};
 ghost use Rattle.numbering.specs.Work.{Unnumbered};
@@ -105,7 +105,7 @@ fn checked(k: u8, old: &[u8], new: &[u8]) -> Answer
 fn emit(
     k: u8,
     old: &[u8],
-    work: &mut [situations::Record],
+    work: &mut [table::Record],
     plan: &mut [u8],
     count: usize,
     rounds: u16,
@@ -128,7 +128,7 @@ fn relate(
     k: u8,
     old: &[u8],
     new: &[u8],
-    work: &mut [situations::Record],
+    work: &mut [table::Record],
     plan: &mut [u8],
     count: usize,
 ) -> Answer
@@ -136,7 +136,7 @@ fn relate(
     ensures { λ r. ⌜ Writes (relatedIn k (contractIn (now (old .entry))) (contractIn (now (new .entry))) (keysOf (now (work .entry))) (linksOf (now (work .entry))) count (length (now (plan .entry)))) r (now (plan .entry)) (now (plan .exit)) ⌝ }
 {
     let rounds = rounds::settle(old, new, work, count);
-    let begin = situations::load(work, 0);
+    let begin = table::load(work, 0);
     if begin.mark != 0 {
         return with_counts(12, count, 0, rounds, 0);
     }
@@ -148,7 +148,7 @@ fn connect_checked(
     k: u8,
     old: &[u8],
     new: &[u8],
-    work: &mut [situations::Record],
+    work: &mut [table::Record],
     plan: &mut [u8],
 ) -> Answer
     requires { ⌜ IsSheet (now old) × IsSheet (now new) × (k ≤ 3) ⌝ }
@@ -163,13 +163,7 @@ fn connect_checked(
 }
 
 // Connects the contracts of two sheets with buffers of rank k.
-pub fn connect(
-    k: u8,
-    old: &[u8],
-    new: &[u8],
-    work: &mut [situations::Record],
-    plan: &mut [u8],
-) -> Answer
+pub fn connect(k: u8, old: &[u8], new: &[u8], work: &mut [table::Record], plan: &mut [u8]) -> Answer
     ensures { λ r. ⌜ record { answer = answerOf r; plan = now (plan .exit); work = now (work .exit) } ≡ connectOf blank k (now (old .entry)) (now (new .entry)) (now (work .entry)) (now (plan .entry)) ⌝ }
 {
     let first = checked(k, old, new);
@@ -177,6 +171,6 @@ pub fn connect(
         return first;
     }
     let answer = connect_checked(k, old, new, work, plan);
-    situations::clear(work);
+    table::clear(work);
     answer
 }

@@ -5,8 +5,8 @@ use mathlib.Core.List.{List}
 use Prim.Native.Nat.{ℕ}
 use lib.ListN.{replicate}
 use Rattle.model.specs.Connect.{Connected, connectOf}
-use Rattle.situations.specs.declared.Record.{Record}
-use Rattle.situations.specs.Records.{blank}
+use Rattle.table.specs.declared.Record.{Record}
+use Rattle.table.specs.Records.{blank}
 use Rattle.connecting.specs.Own.{ownOf}
 
 pub own-answered : (k : ℕ) (old new plan : List ℕ) (z : Record) (table : List Record) (left : Connected Record) → z ≡ blank → table ≡ replicate 1024 z → left ≡ connectOf blank k old new table plan

@@ -4,8 +4,8 @@ use mathlib.Core.List.{List}
 use Prim.Native.Nat.{ℕ}
 use lib.ListN.{replicate}
 use Rattle.model.specs.Connect.{Connected, connectOf}
-use Rattle.situations.specs.declared.Record.{Record}
-use Rattle.situations.specs.Records.{blank}
+use Rattle.table.specs.declared.Record.{Record}
+use Rattle.table.specs.Records.{blank}
 
 -- "It lends 1,024 records", each of them zero
 unfoldable pub ownOf : (k : ℕ) → (old new plan : List ℕ) → Connected Record

@@ -8,22 +8,22 @@ ghost use Rattle.connecting.specs.Own.{ownOf};
 
 fn print_answer(number: u8, sheet: u8, state: u8) {
     io::write_all(1, b"answer ");
-    records::print_figure(number as u64);
-    records::print_figure(sheet as u64);
-    records::print_last(state as u64);
+    framing::print_figure(number as u64);
+    framing::print_figure(sheet as u64);
+    framing::print_last(state as u64);
 }
 
 fn print_counts(situations: u16, states: u16, rounds: u16) {
     io::write_all(1, b"counts ");
-    records::print_figure(situations as u64);
-    records::print_figure(states as u64);
-    records::print_last(rounds as u64);
+    framing::print_figure(situations as u64);
+    framing::print_figure(states as u64);
+    framing::print_last(rounds as u64);
 }
 
 fn print_move(state: u16, code: u8, next: u16) {
-    records::print_figure(state as u64);
-    records::print_figure(code as u64);
-    records::print_last(next as u64);
+    framing::print_figure(state as u64);
+    framing::print_figure(code as u64);
+    framing::print_last(next as u64);
 }
 
 // A line for each of the moves, size of them, that stand from first on in the row of a state.
@@ -58,7 +58,7 @@ fn print_rows(plan: &[u8], states: u16) {
 fn connect_own(k: u8, old: &[u8], new: &[u8], plan: &mut [u8]) -> connect::Answer
     ensures { λ r. ⌜ (answerOf r ≡ ownOf k (now (old .entry)) (now (new .entry)) (now (plan .entry)) .answer) × (now (plan .exit) ≡ ownOf k (now (old .entry)) (now (new .entry)) (now (plan .entry)) .plan) ⌝ }
 {
-    let zero = situations::zero_record();
+    let zero = table::zero_record();
     let mut work = [zero; 1024];
     connect::connect(k, old, new, &mut work, plan)
 }
@@ -81,7 +81,7 @@ fn answer_input(input: &[u8]) {
         print_counts(0, 0, 0);
         return;
     }
-    let end = records::part_end(input, 1);
+    let end = framing::part_end(input, 1);
     connect_sheets(input[0], &input[3..end], &input[end..]);
 }
 

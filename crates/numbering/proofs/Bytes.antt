@@ -14,7 +14,7 @@ use Rattle.model.specs.Bytes.{le32}
 use Rattle.model.specs.Contract.{has}
 use Rattle.model.specs.Plan.{Move, rowBytes, rowsBytes, indexBytes, planBytes, planRows}
 use Rattle.model.proofs.PlanBytes.{length-moves, length-plan}
-use Rattle.table.proofs.Bits.{slotsIn}
+use Rattle.keys.proofs.Bits.{slotsIn}
 use Rattle.numbering.specs.Kept.{statesIn, rowIn, rowsIn, WorkLists, Shown}
 use Rattle.numbering.specs.Numbered.{InOrder}
 use Rattle.numbering.proofs.Bits.{ones-set, ones-clear, ones-end}

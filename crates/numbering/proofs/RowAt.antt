@@ -9,16 +9,16 @@ use lib.Bits.{bitAnd}
 use lib.Count.{ones, trailingZeros}
 use borrow.Rule.Slice.PartMut.{putMid, midOf}
 use Rattle.model.specs.Plan.{moveBytes, rowBytes}
-use Rattle.table.specs.Links.{codeAt}
-use Rattle.table.proofs.Bits.{slotsIn}
+use Rattle.keys.specs.Links.{codeAt}
+use Rattle.keys.proofs.Bits.{slotsIn}
 use Rattle.plan.specs.Front.{front}
-use Rattle.situations.specs.declared.Record.{Record}
-use Rattle.situations.specs.Records.{blank}
-use Rattle.situations.specs.Lists.{slotsOf, linksOf, presentOf, marksOf, numbersOf}
-use Rattle.situations.proofs.Lists.{numbers-length, numbers-at}
+use Rattle.table.specs.declared.Record.{Record}
+use Rattle.table.specs.Records.{blank}
+use Rattle.table.specs.Lists.{slotsOf, linksOf, presentOf, marksOf, numbersOf}
+use Rattle.table.proofs.Lists.{numbers-length, numbers-at}
 use Rattle.numbering.specs.Kept.{statesIn, rowIn, WorkLists, Shown}
 use Rattle.numbering.specs.Numbered.{Numbers}
-use Rattle.table.proofs.Left.{Left, found-among, left-next, left-less}
+use Rattle.keys.proofs.Left.{Left, found-among, left-next, left-less}
 use Rattle.numbering.proofs.Kept.{all-left}
 use Rattle.numbering.proofs.Rows.{moveBy, state-below}
 use Rattle.numbering.proofs.Bytes.{moves-few}

@@ -11,13 +11,13 @@ use borrow.Rule.Slice.PartMut.{putMid, midOf}
 use Rattle.model.specs.Contract.{has}
 use Rattle.model.specs.Plan.{Move, moveBytes, rowBytes}
 use Rattle.model.proofs.PlanBytes.{length-moves}
-use Rattle.table.specs.Links.{codeAt}
-use Rattle.table.proofs.Bits.{slotsIn}
+use Rattle.keys.specs.Links.{codeAt}
+use Rattle.keys.proofs.Bits.{slotsIn}
 use Rattle.plan.specs.Front.{front}
 use Rattle.plan.proofs.Written.{moves-append}
 use Rattle.numbering.specs.Kept.{keptLink, statesIn, rowIn, WorkLists, Shown}
 use Rattle.numbering.specs.Numbered.{Numbers}
-use Rattle.table.proofs.Left.{Left, left-end, left-found, found-set, found-among}
+use Rattle.keys.proofs.Left.{Left, left-end, left-found, found-set, found-among}
 use Rattle.numbering.proofs.Kept.{kept-within, slot-none, slot-linked}
 use Rattle.numbering.proofs.Rows.{moveBy, rowFrom, row-end, row-few, row-whole, row-none, row-by-numbers, numbered-link, state-below}
 use Rattle.numbering.proofs.Bytes.{length-row, moves-shown}

@@ -5,9 +5,9 @@ ghost use mathlib.Core.List.{[], _∷_, List·Memᴰ};
 ghost use Prim.Native.Nat.{_+_, _-_, _*_, _≤_, _<_};
 ghost use lib.ListN.{length};
 ghost use Rattle.model.specs.Plan.{moveBytes, rowBytes, rowsBytes, indexBytes};
-ghost use Rattle.table.specs.Links.{codeAt};
+ghost use Rattle.keys.specs.Links.{codeAt};
 ghost use Rattle.plan.specs.Front.{front};
-ghost use Rattle.situations.specs.Lists.{linksOf, presentOf, marksOf, orderOf, numbersOf};
+ghost use Rattle.table.specs.Lists.{linksOf, presentOf, marksOf, orderOf, numbersOf};
 ghost use Rattle.numbering.specs.Kept.{statesIn, rowIn, rowsIn, WorkLists, Shown};
 ghost use Rattle.numbering.specs.Numbered.{InOrder, Numbers, Numbered};
 
@@ -53,31 +53,31 @@ pub fn write_move(out: &mut [u8], slot: usize, number: u16)
     requires { ⌜ (slot < 42) × (0 < number) × (3 ≤ length (now out)) ⌝ }
     ensures { λ _. ⌜ now (out .exit) ≡ front (moveBytes (record { code = codeAt slot; to = number - 1 } ∷ [])) (now (out .entry)) ⌝ }
 {
-    plan::write::put_move(out, table::code_at(slot as u8), number - 1);
+    plan::write::put_move(out, keys::code_at(slot as u8), number - 1);
 }
 
 // The row of a state's situation i, at the front of what is lent: its length.
-pub fn write_row(work: &[situations::Record], count: usize, i: usize, out: &mut [u8]) -> usize
+pub fn write_row(work: &[table::Record], count: usize, i: usize, out: &mut [u8]) -> usize
     requires { ⌜ WorkLists count (linksOf (now work)) (marksOf (now work)) × Shown count (linksOf (now work)) (marksOf (now work)) (presentOf (now work)) × Numbers count (statesIn (linksOf (now work)) (marksOf (now work)) count) (numbersOf (now work)) × List·Memᴰ i (statesIn (linksOf (now work)) (marksOf (now work)) count) × (length (rowBytes (rowIn (linksOf (now work)) (marksOf (now work)) count i)) ≤ length (now out)) ⌝ }
     ensures { λ r. ⌜ (r ≡ length (rowBytes (rowIn (linksOf (now (work .entry))) (marksOf (now (work .entry))) count i))) × (now (out .exit) ≡ front (rowBytes (rowIn (linksOf (now (work .entry))) (marksOf (now (work .entry))) count i)) (now (out .entry))) ⌝ }
 {
-    let y = situations::load(work, i);
-    let mut rest = situations::fields::slots_of(y);
+    let y = table::load(work, i);
+    let mut rest = table::fields::slots_of(y);
     plan::write::put_byte(out, fields::moves_in(rest));
     let mut at: usize = 1;
     while rest != 0 {
-        let slot = table::lowest(rest);
-        let link = situations::next_at(work, i, slot);
-        let t = situations::load(work, situations::fields::place_of(link));
+        let slot = keys::lowest(rest);
+        let link = table::next_at(work, i, slot);
+        let t = table::load(work, table::fields::place_of(link));
         write_move(&mut out[at..], slot, t.number);
         at = at + 3;
-        rest = table::without_lowest(rest);
+        rest = keys::without_lowest(rest);
     }
     at
 }
 
 // The rows of the states, each into the rest of what is lent, directly behind the row before: their length.
-pub fn write_rows(work: &[situations::Record], count: usize, states: u16, out: &mut [u8]) -> u32
+pub fn write_rows(work: &[table::Record], count: usize, states: u16, out: &mut [u8]) -> u32
     requires { ⌜ WorkLists count (linksOf (now work)) (marksOf (now work)) × Shown count (linksOf (now work)) (marksOf (now work)) (presentOf (now work)) × Numbered count (statesIn (linksOf (now work)) (marksOf (now work)) count) states (orderOf (now work)) (numbersOf (now work)) × (length (rowsBytes (rowsIn (linksOf (now work)) (marksOf (now work)) count)) ≤ length (now out)) ⌝ }
     ensures { λ r. ⌜ (r ≡ length (rowsBytes (rowsIn (linksOf (now (work .entry))) (marksOf (now (work .entry))) count))) × (now (out .exit) ≡ front (rowsBytes (rowsIn (linksOf (now (work .entry))) (marksOf (now (work .entry))) count)) (now (out .entry))) ⌝ }
 {
@@ -85,15 +85,15 @@ pub fn write_rows(work: &[situations::Record], count: usize, states: u16, out: &
     let mut at: usize = 0;
     let mut p: usize = 0;
     while p < last {
-        let s = situations::load(work, p);
-        at = at + write_row(work, count, situations::fields::order_of(s), &mut out[at..]);
+        let s = table::load(work, p);
+        at = at + write_row(work, count, table::fields::order_of(s), &mut out[at..]);
         p = p + 1;
     }
     offset_of(at)
 }
 
 // The index: the offset of each row, the first at 0.
-pub fn write_index(work: &[situations::Record], count: usize, states: u16, out: &mut [u8])
+pub fn write_index(work: &[table::Record], count: usize, states: u16, out: &mut [u8])
     requires { ⌜ WorkLists count (linksOf (now work)) (marksOf (now work)) × Shown count (linksOf (now work)) (marksOf (now work)) (presentOf (now work)) × InOrder (statesIn (linksOf (now work)) (marksOf (now work)) count) states (orderOf (now work)) × (4 * states ≤ length (now out)) ⌝ }
     ensures { λ _. ⌜ now (out .exit) ≡ front (indexBytes 0 (rowsIn (linksOf (now (work .entry))) (marksOf (now (work .entry))) count)) (now (out .entry)) ⌝ }
 {
@@ -103,8 +103,8 @@ pub fn write_index(work: &[situations::Record], count: usize, states: u16, out: 
     let mut p: usize = 0;
     while p < last {
         plan::write::put_dword(&mut out[at..], row);
-        let s = situations::load(work, p);
-        let y = situations::load(work, situations::fields::order_of(s));
+        let s = table::load(work, p);
+        let y = table::load(work, table::fields::order_of(s));
         row = row + fields::row_length(y);
         at = at + 4;
         p = p + 1;

@@ -9,10 +9,10 @@ use lib.ListN.{length, getD, set}
 use borrow.Author.Count.{below-more}
 use Rattle.model.specs.Contract.{Contract}
 use Rattle.model.specs.Sheet.{contractIn}
-use Rattle.situations.specs.declared.Record.{Record}
-use Rattle.situations.specs.Records.{blank, orderSet}
-use Rattle.situations.specs.Lists.{marksOf, orderOf}
-use Rattle.situations.proofs.Lists.{marks-length, order-length}
+use Rattle.table.specs.declared.Record.{Record}
+use Rattle.table.specs.Records.{blank, orderSet}
+use Rattle.table.specs.Lists.{marksOf, orderOf}
+use Rattle.table.proofs.Lists.{marks-length, order-length}
 use Rattle.rounds.specs.Records.{markedOf, remainsOf}
 use Rattle.rounds.specs.Removing.{passedBy, Judged, Looked}
 use Rattle.rounds.specs.Work.{MarksOnly, passedIn, Looking, LookedWork}

@@ -9,11 +9,11 @@ use native.Mathlib.Omega.{arith}
 use lib.ListN.{length, getD}
 use Rattle.model.specs.Contract.{Contract}
 use Rattle.model.specs.Sheet.{contractIn}
-use Rattle.table.proofs.Chained.{walk-start, walk-most, walk-less, walk-next}
-use Rattle.situations.specs.declared.Record.{Record}
-use Rattle.situations.specs.Records.{blank}
-use Rattle.situations.specs.Lists.{linksOf, lastOf, beforeOf, marksOf, orderOf}
-use Rattle.situations.proofs.Lists.{order-at}
+use Rattle.keys.proofs.Chained.{walk-start, walk-most, walk-less, walk-next}
+use Rattle.table.specs.declared.Record.{Record}
+use Rattle.table.specs.Records.{blank}
+use Rattle.table.specs.Lists.{linksOf, lastOf, beforeOf, marksOf, orderOf}
+use Rattle.table.proofs.Lists.{order-at}
 use Rattle.rounds.specs.Chains.{slotAt, Listed}
 use Rattle.rounds.specs.Removing.{Judged, JudgedInto, JudgedBy}
 use Rattle.rounds.specs.Work.{passedIn, Looking, LookedWork}

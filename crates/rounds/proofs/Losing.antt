@@ -11,7 +11,7 @@ use lib.ListN.{length, getD, set, length-set}
 use lib.Dec.{eqb}
 use borrow.Author.Tests.{eq-eqb, eqb-true}
 use Rattle.model.specs.Contract.{has}
-use Rattle.table.proofs.Chained.{Walk, walk-start, walk-most, walk-class, walk-less, walk-next, walk-end}
+use Rattle.keys.proofs.Chained.{Walk, walk-start, walk-most, walk-class, walk-less, walk-next, walk-end}
 use Rattle.rounds.specs.Chains.{slotAt, targetAt, intoOf, Listed}
 use Rattle.rounds.specs.Masks.{Fewer, Lost, Into, LostInto}
 use Rattle.rounds.proofs.Bits.{bit-after, fewer-after}

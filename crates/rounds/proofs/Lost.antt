@@ -5,10 +5,10 @@ use mathlib.Core.List.{List}
 use Prim.Native.Nat.{ℕ, _+_, _-_, _*_, _/_, _%_, _≤_, _<_}
 use native.Mathlib.Omega.{arith}
 use lib.ListN.{length, getD, set}
-use Rattle.situations.specs.declared.Record.{Record}
-use Rattle.situations.specs.Records.{blank}
-use Rattle.situations.specs.Lists.{linksOf, presentOf, lastOf, beforeOf, orderOf}
-use Rattle.situations.proofs.Lists.{last-at, before-at, order-at, present-at, present-length}
+use Rattle.table.specs.declared.Record.{Record}
+use Rattle.table.specs.Records.{blank}
+use Rattle.table.specs.Lists.{linksOf, presentOf, lastOf, beforeOf, orderOf}
+use Rattle.table.proofs.Lists.{last-at, before-at, order-at, present-at, present-length}
 use Rattle.rounds.specs.Chains.{slotAt, intoOf, Listed}
 use Rattle.rounds.specs.Masks.{Lost, LostInto}
 use Rattle.rounds.specs.Records.{withoutBit, withoutOf}

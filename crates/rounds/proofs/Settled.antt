@@ -9,14 +9,14 @@ use native.Mathlib.Omega.{arith}
 use lib.ListN.{length, getD}
 use Rattle.model.specs.Contract.{Contract}
 use Rattle.model.specs.Sheet.{contractIn}
-use Rattle.table.specs.Chained.{Chained}
-use Rattle.table.specs.Links.{LinksWithin, unmarked}
-use Rattle.table.specs.Masks.{Filled}
-use Rattle.table.proofs.Chained.{chained-none}
-use Rattle.situations.specs.declared.Record.{Record}
-use Rattle.situations.specs.Fresh.{Fresh}
-use Rattle.situations.specs.Lists.{keysOf, linksOf, presentOf, lastOf, beforeOf, marksOf, orderOf}
-use Rattle.situations.proofs.Lists.{last-at, last-length, marks-length}
+use Rattle.keys.specs.Chained.{Chained}
+use Rattle.keys.specs.Links.{LinksWithin, unmarked}
+use Rattle.keys.specs.Masks.{Filled}
+use Rattle.keys.proofs.Chained.{chained-none}
+use Rattle.table.specs.declared.Record.{Record}
+use Rattle.table.specs.Fresh.{Fresh}
+use Rattle.table.specs.Lists.{keysOf, linksOf, presentOf, lastOf, beforeOf, marksOf, orderOf}
+use Rattle.table.proofs.Lists.{last-at, last-length, marks-length}
 use Rattle.rounds.specs.Chains.{slotAt, targetAt, Listed}
 use Rattle.rounds.specs.Masks.{LostInto}
 use Rattle.rounds.specs.Removing.{passedBy, Judged, Looked, JudgedBy, Rounded}

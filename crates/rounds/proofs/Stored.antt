@@ -6,12 +6,12 @@ use mathlib.Core.List.{List}
 use Prim.Native.Nat.{ℕ, zero, suc, _+_, _*_, _<_}
 use native.Mathlib.Omega.{arith}
 use lib.ListN.{length, getD, set, length-set}
-use Rattle.table.specs.Fields.{fitted}
-use Rattle.table.proofs.Fields.{field-at, field-kept}
-use Rattle.situations.specs.declared.Record.{Record}
-use Rattle.situations.specs.Records.{blank, lastSet, beforeSet, orderSet}
-use Rattle.situations.specs.Lists.{keyIn, presentOf, lastOf, beforeOf, marksOf, orderOf}
-use Rattle.situations.proofs.Lists.{keys-kept, links-kept, numbers-kept, last-kept, before-kept, marks-kept, marks-set, order-kept, order-set, present-kept, present-set, masks}
+use Rattle.keys.specs.Fields.{fitted}
+use Rattle.keys.proofs.Fields.{field-at, field-kept}
+use Rattle.table.specs.declared.Record.{Record}
+use Rattle.table.specs.Records.{blank, lastSet, beforeSet, orderSet}
+use Rattle.table.specs.Lists.{keyIn, presentOf, lastOf, beforeOf, marksOf, orderOf}
+use Rattle.table.proofs.Lists.{keys-kept, links-kept, numbers-kept, last-kept, before-kept, marks-kept, marks-set, order-kept, order-set, present-kept, present-set, masks}
 use Rattle.rounds.specs.Records.{inRounds, withoutBit, withoutIn, withoutOf, markedOf}
 use Rattle.rounds.specs.Work.{oldsOf, newsOf, Unmoved, Steady, ChainsOnly, MasksOnly, MarksOnly}
 

@@ -1,5 +1,5 @@
-//! Agreement with the reference program on the data that is stored for the test programs pair_run, step_run and
-//! client_run. tests/reference/README.md says how the records and the lines are laid out.
+//! Agreement with the reference program on the data that is stored for the test programs pair_cases, step_cases and
+//! client_cases. tests/reference/README.md says how the records and the lines are laid out.
 
 use baseline::{complies, step, Workspace};
 use std::path::Path;
@@ -40,7 +40,7 @@ fn digest(bytes: &[u8]) -> u64 {
 #[test]
 fn pairs() {
     let mut workspace = Workspace::new(usize::from(u16::MAX));
-    agree("pair_run", 2, |record| {
+    agree("pair_cases", 2, |record| {
         let behind = 7 + word(record, 5);
         let mut plan = vec![0xEE; word(record, 2)];
         let (old, new) = (&record[7..behind], &record[behind..]);
@@ -60,7 +60,7 @@ fn pairs() {
 
 #[test]
 fn steps() {
-    agree("step_run", 0, |record| {
+    agree("step_cases", 0, |record| {
         let (number, next) = step(&record[3..], word(record, 0) as u16, record[2]);
         vec![number.into(), next.into()]
     });
@@ -68,7 +68,7 @@ fn steps() {
 
 #[test]
 fn clients() {
-    agree("client_run", 0, |record| {
+    agree("client_cases", 0, |record| {
         let behind = 2 + word(record, 0);
         let (number, sheet, state, yes) = complies(&record[2..behind], &record[behind..]);
         vec![number.into(), sheet.into(), state.into(), yes.into()]

@@ -1,6 +1,6 @@
 //! The product's functions as C sees them.
 
-use crate::table::Record;
+use crate::keys::Record;
 use std::ptr::{null, null_mut};
 
 /// What connecting answers.

@@ -5,7 +5,7 @@ mod foreign;
 mod table;
 
 pub use foreign::{Answer, Compliance, Stepped};
-pub use table::{Lent, Record, Table};
+pub use keys::{Lent, Record, Table};
 
 use foreign::passed;
 

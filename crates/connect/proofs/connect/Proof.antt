@@ -1,33 +1,33 @@
 -- `connect::connect` meets its contract: a walk of its code, written by tools/walk from walks/connect.walk.
 -- Assumes nothing.
-use Rattle.situations.proofs.Logic.{_≡_, refl, _∙_, not, ℕ, _<_, _^_, List, [], _∷_, eqb, length, URA, fullShare, Ty, named, erased, imm, mut, w8, tyInt, tyBool, tyUnit, tyRef, Val, vunit, vint, vbool, vptr, SProp, ent, emp, via, fst∗, Lft, Share, GName, ftrue, flft, Memory, Routine, Heap, Env, WpFn, Tables, Atoms, Fun, tablesOf, givenOf, tables, Given, Sq, runs, atRet, ‵, _⊛_, ⋆, _$_, _∵_, !, qed, by, move, keep, split, join, fsplit, fjoin, suffices, done, look, init, stop, hop, fld, from, load, lit, addr, and-then, no-more, land, of-opd, bin, assigns, returns-within, enter, alloc1, alloc0, params1, pass1, pass0, agg, whole, sub, look-in, fmOf, WpFn-mono, owns, Is, pointee, RefT, sliceTy, sliceVal, MutSlice, ShrSlice, Room, slice-vals, mut-slice-tells, shr-slice-tells, uint-makes, uint-vals, uint-tells, u8, owned, nothing, plain, onEntry, Meets, tripleOf, Triple, entered, cited, says, Stays, stay-none, stay-slice, stay-none-slice, walkOf, goes-none, goes-slice, goes-none-slice, Walks, ends-at, walked, walk-meets, yes}
-use Rattle.situations.proofs.Walk.{empty, full, unequal, not-unequal, guards}
-use Rattle.situations.proofs.Freed.{bare, held, released}
-use Rattle.situations.proofs.Lent.{lentAt, lend, regain, share}
+use Rattle.walks.proofs.Logic.{_≡_, refl, _∙_, not, ℕ, _<_, _^_, List, [], _∷_, eqb, length, URA, fullShare, Ty, named, erased, imm, mut, w8, tyInt, tyBool, tyUnit, tyRef, Val, vunit, vint, vbool, vptr, SProp, ent, emp, via, fst∗, Lft, Share, GName, ftrue, flft, Memory, Routine, Heap, Env, WpFn, Tables, Atoms, Fun, tablesOf, givenOf, tables, Given, Sq, runs, atRet, ‵, _⊛_, ⋆, _$_, _∵_, !, qed, by, move, keep, split, join, fsplit, fjoin, suffices, done, look, init, stop, hop, fld, from, load, lit, addr, and-then, no-more, land, of-opd, bin, assigns, returns-within, enter, alloc1, alloc0, params1, pass1, pass0, agg, whole, sub, look-in, fmOf, WpFn-mono, owns, Is, pointee, RefT, sliceTy, sliceVal, MutSlice, ShrSlice, Room, slice-vals, mut-slice-tells, shr-slice-tells, uint-makes, uint-vals, uint-tells, u8, owned, nothing, plain, onEntry, Meets, tripleOf, Triple, entered, cited, says, Stays, stay-none, stay-slice, stay-none-slice, walkOf, goes-none, goes-slice, goes-none-slice, Walks, ends-at, walked, walk-meets, yes}
+use Rattle.walks.proofs.Branches.{empty, full, unequal, not-unequal, guards}
+use Rattle.walks.proofs.Freed.{bare, held, released}
+use Rattle.walks.proofs.Lent.{lentAt, lend, regain, share}
 use denote.Struct.Laws as LL
 use Rattle.connect.proofs.connect as this
 use Rattle.connect.proofs.connect.Statement as this-stated
 use Rattle.connect.proofs.connect.Code as this-code
 use Rattle.connect.proofs.connect.Code.Mir as this-mir
 use Rattle.connect.proofs.connect.Key.{name as #connect·connect}
-use Rattle.connect.proofs.CheckedCall.{calls-checked, checked-contract}
+use Rattle.connect.proofs.calls.Checked.{calls-checked, checked-contract}
 use Rattle.connect.proofs.checked.Symbol as checked-def
 use Rattle.connect.proofs.checked.Symbol.{name as #connect·checked}
 use Rattle.connect.proofs.checked.Met as checked-thm
 use Rattle.connect.specs.Answers.{answerOf}
-use Rattle.connect.proofs.ConnectCheckedCall.{calls-connect-checked, connect-checked-contract}
+use Rattle.connect.proofs.calls.ConnectChecked.{calls-connect-checked, connect-checked-contract}
 use Rattle.connect.proofs.connect_checked.Symbol as connect-checked-def
 use Rattle.connect.proofs.connect_checked.Symbol.{name as #connect·connect-checked}
 use Rattle.connect.proofs.connect_checked.Met as connect-checked-thm
 use Rattle.model.specs.Connect.{connectOf}
-use Rattle.situations.proofs.ClearCall.{calls-clear, clear-contract}
-use Rattle.situations.proofs.clear.Symbol as clear-def
-use Rattle.situations.proofs.clear.Symbol.{name as #situations·clear}
-use Rattle.situations.proofs.clear.Met as clear-thm
-use Rattle.situations.specs.Records.{blank, cleared}
+use Rattle.table.proofs.calls.Clear.{calls-clear, clear-contract}
+use Rattle.table.proofs.clear.Symbol as clear-def
+use Rattle.table.proofs.clear.Symbol.{name as #table·clear}
+use Rattle.table.proofs.clear.Met as clear-thm
+use Rattle.table.specs.Records.{blank, cleared}
 use Rattle.connect.proofs.Outcomes.{connect-done, connect-refused}
-use Rattle.situations.proofs.Record as Record-row
-use Rattle.situations.specs.declared.Record.{Record}
+use Rattle.table.proofs.Record as Record-row
+use Rattle.table.specs.declared.Record.{Record}
 use Rattle.connect.proofs.Answer as Answer-row
 use Rattle.connect.proofs.Answer.Laws as Answer-laws
 use Rattle.connect.specs.declared.Answer.{Answer}
@@ -91,7 +91,7 @@ module _ {M : Type 1} (𝓤 : URA M) (H : Heap 𝓤) (A : Atoms 𝓤) (W : Given
       suffices ! _ (ends-at 𝓤 H A this.ended stayed (this.clauses 𝓤 H A mem run) W (((κ-old, (κ-new, (κ-work, (κ-plan, tt)))), (q-old, (q-new, (q-work, (q-plan, tt)))), tt, args, machine), tt) (Answer-laws.lowered r) r (tt, (tt, (tt, (work′, (plan′, tt))))) (tt, (tt, (tt, (long-work, (long-plan, tt)))))) $ says ! said $
       owned ! Answer-row.the-row (Is Answer-row.the-row) (LL.makes Answer-row.the-type Answer-laws.the-plain 𝓤 H A) r _ is-res $ nothing ! $ move ! (8 ∷ 0 ∷ []) $ fjoin ! $ move ! (6 ∷ 0 ∷ []) $ fjoin ! $ move ! (4 ∷ 0 ∷ []) $ fjoin ! $ move ! (2 ∷ 0 ∷ []) $ fjoin ! $ owned ! u8 (Is u8) (uint-makes 𝓤 H A W w8) k _ (refl, fits-k) $ fjoin ! $ nothing ! $ move ! (6 ∷ 0 ∷ []) $ join ! $ move ! (5 ∷ 0 ∷ []) $ join ! $ move ! (4 ∷ 0 ∷ []) $ join ! $ move ! (3 ∷ 0 ∷ []) $ join ! $ done !
 
-  module _ (𝓣 : Tables 𝓤 H) (known-checked : Triple 𝓤 (𝓣 .C #connect·checked) (checked-contract 𝓤 H A mem run)) (known-connect-checked : Triple 𝓤 (𝓣 .C #connect·connect-checked) (connect-checked-contract 𝓤 H A mem run)) (known-clear : Triple 𝓤 (𝓣 .C #situations·clear) (clear-contract 𝓤 H A mem run)) where
+  module _ (𝓣 : Tables 𝓤 H) (known-checked : Triple 𝓤 (𝓣 .C #connect·checked) (checked-contract 𝓤 H A mem run)) (known-connect-checked : Triple 𝓤 (𝓣 .C #connect·connect-checked) (connect-checked-contract 𝓤 H A mem run)) (known-clear : Triple 𝓤 (𝓣 .C #table·clear) (clear-contract 𝓤 H A mem run)) where
     module _ (l0 l1 l2 l3 l4 l5 l6 l7 l8 l9 l10 l11 l12 l13 l14 l15 : ℕ) where
       abbrev En : Env 𝓤 H
       En = (Answer-laws.mir, l0) ∷ ((tyInt w8), l1) ∷ (τ0, l2) ∷ (τ1, l3) ∷ (τ2, l4) ∷ (τ3, l5) ∷ (Answer-laws.mir, l6) ∷ (Answer-laws.mir, l7) ∷ (tyBool, l8) ∷ (τ4, l9) ∷ (τ5, l10) ∷ (τ6, l11) ∷ (τ7, l12) ∷ (tyUnit, l13) ∷ (τ4, l14) ∷ (τ5, l15) ∷ []
@@ -131,11 +131,11 @@ module _ {M : Type 1} (𝓤 : URA M) (H : Heap 𝓤) (A : Atoms 𝓤) (W : Given
         pass1 ! (init ! 28 refl (tt, record { fits = fits-k })) $ pass1 ! (init ! 26 refl (tt, (tt, (record { fits = room-old .0 }, tt)))) $ pass1 ! (init ! 24 refl (tt, (tt, (record { fits = room-new .0 }, tt)))) $ pass1 ! (init ! 22 refl (tt, (tt, (record { fits = room-work .0 }, tt)))) $ pass1 ! (init ! 20 refl (tt, (tt, (record { fits = room-plan .0 }, tt)))) $ pass0 ! $ move ! (32 ∷ 33 ∷ 34 ∷ 35 ∷ 36 ∷ 37 ∷ 38 ∷ 39 ∷ []) $ part-1 l0 l1 l2 l3 l4 l5 l6 l7 l8 l9 l10 l11 l12 l13 l14 l15))))))))))))))))
 
 module _ {M : Type 1} (𝓤 : URA M) (H : Heap 𝓤) (A : Atoms 𝓤) (W : Given 𝓤 H A) (mem : Memory → SProp 𝓤) (run : Routine → Fun 𝓤) where
-  connect-walks : (𝓣 : Tables 𝓤 H) → Triple 𝓤 (𝓣 .C #connect·checked) (checked-contract 𝓤 H A mem run) → Triple 𝓤 (𝓣 .C #connect·connect-checked) (connect-checked-contract 𝓤 H A mem run) → Triple 𝓤 (𝓣 .C #situations·clear) (clear-contract 𝓤 H A mem run) → Walks 𝓤 H A this.ended stayed (WpFn 𝓤 H (𝓣 .C) (𝓣 .Λ) this-code.function) (this.clauses 𝓤 H A mem run)
+  connect-walks : (𝓣 : Tables 𝓤 H) → Triple 𝓤 (𝓣 .C #connect·checked) (checked-contract 𝓤 H A mem run) → Triple 𝓤 (𝓣 .C #connect·connect-checked) (connect-checked-contract 𝓤 H A mem run) → Triple 𝓤 (𝓣 .C #table·clear) (clear-contract 𝓤 H A mem run) → Walks 𝓤 H A this.ended stayed (WpFn 𝓤 H (𝓣 .C) (𝓣 .Λ) this-code.function) (this.clauses 𝓤 H A mem run)
   connect-walks 𝓣 known-checked known-connect-checked known-clear = walked 𝓤 H A this.ended stayed (this.clauses 𝓤 H A mem run) (WpFn 𝓤 H (𝓣 .C) (𝓣 .Λ) this-code.function)
       (λ κs. (uint-vals w8, (slice-vals, (slice-vals, (slice-vals, (slice-vals, tt)))))) (λ κs. (uint-tells w8, (shr-slice-tells (named 0) (κs .0) u8, (shr-slice-tells (named 1) (κs .1 .0) u8, (mut-slice-tells (named 2) (κs .1 .1 .0) Record-row.the-row, (mut-slice-tells (named 3) (κs .1 .1 .1 .0) u8, tt)))))) (λ κs qs bounds a g are. via 𝓤 _ (fst∗ 𝓤 _ (emp 𝓤)) (walk 𝓤 H A W mem run (a .0) (κs .0) (qs .0) (a .1 .0 .ptr .0) (a .1 .0 .ptr .1) (a .1 .0 .name) (a .1 .0 .now) (κs .1 .0) (qs .1 .0) (a .1 .1 .0 .ptr .0) (a .1 .1 .0 .ptr .1) (a .1 .1 .0 .name) (a .1 .1 .0 .now) (κs .1 .1 .0) (qs .1 .1 .0) (a .1 .1 .1 .0 .ptr .0) (a .1 .1 .1 .0 .ptr .1) (a .1 .1 .1 .0 .name) (a .1 .1 .1 .0 .now) (κs .1 .1 .1 .0) (qs .1 .1 .1 .0) (a .1 .1 .1 .1 .0 .ptr .0) (a .1 .1 .1 .1 .0 .ptr .1) (a .1 .1 .1 .1 .0 .name) (a .1 .1 .1 .1 .0 .now) (are .0 .1) (are .1 .0 .0 .1) (are .1 .1 .0 .0 .1) (are .1 .1 .1 .0 .0 .1) (are .1 .1 .1 .1 .0 .0 .1) 𝓣 known-checked known-connect-checked known-clear))
 
-  connect-meets : (𝓣 : Tables 𝓤 H) → Triple 𝓤 (𝓣 .C #connect·checked) (checked-contract 𝓤 H A mem run) → Triple 𝓤 (𝓣 .C #connect·connect-checked) (connect-checked-contract 𝓤 H A mem run) → Triple 𝓤 (𝓣 .C #situations·clear) (clear-contract 𝓤 H A mem run) → Meets 𝓤 H A this.signature (WpFn 𝓤 H (𝓣 .C) (𝓣 .Λ) this-code.function) (this.spec 𝓤 H A mem run)
+  connect-meets : (𝓣 : Tables 𝓤 H) → Triple 𝓤 (𝓣 .C #connect·checked) (checked-contract 𝓤 H A mem run) → Triple 𝓤 (𝓣 .C #connect·connect-checked) (connect-checked-contract 𝓤 H A mem run) → Triple 𝓤 (𝓣 .C #table·clear) (clear-contract 𝓤 H A mem run) → Meets 𝓤 H A this.signature (WpFn 𝓤 H (𝓣 .C) (𝓣 .Λ) this-code.function) (this.spec 𝓤 H A mem run)
   connect-meets 𝓣 known-checked known-connect-checked known-clear = walk-meets 𝓤 H A this.ended stayed W (goes-none 𝓤 H A W 4 (λ _. u8) yes (λ κs x f. refl), (goes-none-slice 𝓤 H A W 4 (0 ∷ []) tt (plain (λ _. u8)) yes, (goes-none-slice 𝓤 H A W 4 (1 ∷ []) tt (plain (λ _. u8)) yes, (goes-slice 𝓤 H A W 4 2 tt (plain (λ _. Record-row.the-row)), (goes-slice 𝓤 H A W 4 3 tt (plain (λ _. u8)), tt))))) (this.clauses 𝓤 H A mem run)
       (WpFn 𝓤 H (𝓣 .C) (𝓣 .Λ) this-code.function) (WpFn-mono 𝓤 H (W .laws) 𝓣 this-code.function) (connect-walks 𝓣 known-checked known-connect-checked known-clear)
 
@@ -147,4 +147,4 @@ connect-spec 𝓤 H 𝓜 𝓖 𝓡 =
     (connect-meets 𝓤 H (𝓖 .A) (givenOf 𝓤 H 𝓜 𝓖) (𝓜 .mem) (𝓡 .run) (tablesOf 𝓤 H 𝓜 (tables 𝓤 H 𝓜 𝓡 this-code.env))
     (cited 𝓤 H (checked-contract 𝓤 H (𝓖 .A) (𝓜 .mem) (𝓡 .run)) 𝓜 𝓡 this-code.env #connect·checked checked-def.routine this-code.calls-connect·checked (checked-thm.met 𝓤 H 𝓜 𝓖 𝓡))
     (cited 𝓤 H (connect-checked-contract 𝓤 H (𝓖 .A) (𝓜 .mem) (𝓡 .run)) 𝓜 𝓡 this-code.env #connect·connect-checked connect-checked-def.routine this-code.calls-connect·connect-checked (connect-checked-thm.met 𝓤 H 𝓜 𝓖 𝓡))
-    (cited 𝓤 H (clear-contract 𝓤 H (𝓖 .A) (𝓜 .mem) (𝓡 .run)) 𝓜 𝓡 this-code.env #situations·clear clear-def.routine this-code.calls-situations·clear (clear-thm.met 𝓤 H 𝓜 𝓖 𝓡)))
+    (cited 𝓤 H (clear-contract 𝓤 H (𝓖 .A) (𝓜 .mem) (𝓡 .run)) 𝓜 𝓡 this-code.env #table·clear clear-def.routine this-code.calls-table·clear (clear-thm.met 𝓤 H 𝓜 𝓖 𝓡)))

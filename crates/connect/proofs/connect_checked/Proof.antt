@@ -1,45 +1,45 @@
 -- `connect::connect_checked` meets its contract: a walk of its code, written by tools/walk from walks/connect_checked.walk.
 -- Assumes nothing.
-use Rattle.situations.proofs.Logic.{_≡_, refl, _∙_, ℕ, _<_, _≤_, _^_, List, [], _∷_, lit<, eqb, length, URA, fullShare, Ty, named, erased, imm, mut, w8, w16, w64, tyInt, tyBool, tyRef, Val, vint, vbool, vptr, SProp, ent, Lft, Share, GName, ftrue, flft, Memory, Routine, Heap, Env, WpFn, Tables, Atoms, Fun, tablesOf, givenOf, tables, Given, Sq, runs, atRet, ‵, _⊛_, ⋆, _$_, _∵_, !, qed, by, move, keep, split, join, fsplit, fjoin, suffices, done, look, init, store, forget, stop, hop, fld, from, load, lit, addr, and-then, no-more, land, of-opd, bin, assigns, returns-within, enter, alloc1, alloc0, params1, pass1, pass0, agg, whole, sub, look-in, fmOf, WpFn-mono, owns, Is, pointee, RefT, sliceTy, sliceVal, MutSlice, ShrSlice, Room, slice-vals, mut-slice-tells, shr-slice-tells, uint-makes, uint-vals, uint-tells, u8, owned, nothing, plain, onEntry, Meets, tripleOf, Triple, entered, cited, says, needs, Stays, stay-none, stay-slice, stay-none-slice, walkOf, goes-none, goes-slice, goes-none-slice, Walks, ends-at, walked, walk-meets, yes}
-use Rattle.situations.proofs.Walk.{empty, full, equal, unequal, guards}
-use Rattle.situations.proofs.Freed.{bare, held, released}
-use Rattle.situations.proofs.Lent.{lentAt, lend, regain, share}
+use Rattle.walks.proofs.Logic.{_≡_, refl, _∙_, ℕ, _<_, _≤_, _^_, List, [], _∷_, lit<, eqb, length, URA, fullShare, Ty, named, erased, imm, mut, w8, w16, w64, tyInt, tyBool, tyRef, Val, vint, vbool, vptr, SProp, ent, Lft, Share, GName, ftrue, flft, Memory, Routine, Heap, Env, WpFn, Tables, Atoms, Fun, tablesOf, givenOf, tables, Given, Sq, runs, atRet, ‵, _⊛_, ⋆, _$_, _∵_, !, qed, by, move, keep, split, join, fsplit, fjoin, suffices, done, look, init, store, forget, stop, hop, fld, from, load, lit, addr, and-then, no-more, land, of-opd, bin, assigns, returns-within, enter, alloc1, alloc0, params1, pass1, pass0, agg, whole, sub, look-in, fmOf, WpFn-mono, owns, Is, pointee, RefT, sliceTy, sliceVal, MutSlice, ShrSlice, Room, slice-vals, mut-slice-tells, shr-slice-tells, uint-makes, uint-vals, uint-tells, u8, owned, nothing, plain, onEntry, Meets, tripleOf, Triple, entered, cited, says, needs, Stays, stay-none, stay-slice, stay-none-slice, walkOf, goes-none, goes-slice, goes-none-slice, Walks, ends-at, walked, walk-meets, yes}
+use Rattle.walks.proofs.Branches.{empty, full, equal, unequal, guards}
+use Rattle.walks.proofs.Freed.{bare, held, released}
+use Rattle.walks.proofs.Lent.{lentAt, lend, regain, share}
 use denote.Struct.Laws as LL
 use Rattle.connect.proofs.connect_checked as this
 use Rattle.connect.proofs.connect_checked.Statement as this-stated
 use Rattle.connect.proofs.connect_checked.Code as this-code
 use Rattle.connect.proofs.connect_checked.Code.Mir as this-mir
 use Rattle.connect.proofs.connect_checked.Key.{name as #connect·connect-checked}
-use Rattle.connect.proofs.LimitOfCall.{calls-limit-of, limit-of-contract}
+use Rattle.connect.proofs.calls.LimitOf.{calls-limit-of, limit-of-contract}
 use Rattle.connect.proofs.limit_of.Symbol as limit-of-def
 use Rattle.connect.proofs.limit_of.Symbol.{name as #connect·limit-of}
 use Rattle.connect.proofs.limit_of.Met as limit-of-thm
 use Rattle.model.specs.Connect.{connected, limitOf}
-use Rattle.reached.proofs.ExploreCall.{calls-explore, explore-contract}
+use Rattle.reached.proofs.calls.Explore.{calls-explore, explore-contract}
 use Rattle.reached.proofs.explore.Symbol as explore-def
 use Rattle.reached.proofs.explore.Symbol.{name as #reached·explore}
 use Rattle.reached.proofs.explore.Met as explore-thm
 use Rattle.sheet.specs.Whole.{IsSheet}
 use Rattle.reached.specs.Reached.{ExploredWork}
 use Rattle.model.specs.Sheet.{contractIn}
-use Rattle.connect.proofs.RefusalCall.{calls-refusal, refusal-contract}
+use Rattle.connect.proofs.calls.Refusal.{calls-refusal, refusal-contract}
 use Rattle.connect.proofs.refusal.Symbol as refusal-def
 use Rattle.connect.proofs.refusal.Symbol.{name as #connect·refusal}
 use Rattle.connect.proofs.refusal.Met as refusal-thm
 use Rattle.connect.specs.Answers.{Writes}
-use Rattle.connect.proofs.WideCall.{calls-wide, wide-contract}
+use Rattle.connect.proofs.calls.Wide.{calls-wide, wide-contract}
 use Rattle.connect.proofs.wide.Symbol as wide-def
 use Rattle.connect.proofs.wide.Symbol.{name as #connect·wide}
 use Rattle.connect.proofs.wide.Met as wide-thm
-use Rattle.connect.proofs.RelateCall.{calls-relate, relate-contract}
+use Rattle.connect.proofs.calls.Relate.{calls-relate, relate-contract}
 use Rattle.connect.proofs.relate.Symbol as relate-def
 use Rattle.connect.proofs.relate.Symbol.{name as #connect·relate}
 use Rattle.connect.proofs.relate.Met as relate-thm
-use Rattle.situations.specs.Lists.{keysOf, linksOf}
+use Rattle.table.specs.Lists.{keysOf, linksOf}
 use Rattle.connect.specs.Related.{relatedIn}
 use Rattle.connect.proofs.Connecting.{limit-few, work-table, writes-over, writes-whole}
-use Rattle.situations.proofs.Record as Record-row
-use Rattle.situations.specs.declared.Record.{Record}
+use Rattle.table.proofs.Record as Record-row
+use Rattle.table.specs.declared.Record.{Record}
 use Rattle.connect.proofs.Answer as Answer-row
 use Rattle.connect.proofs.Answer.Laws as Answer-laws
 use Rattle.connect.specs.declared.Answer.{Answer}

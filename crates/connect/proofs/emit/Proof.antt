@@ -1,50 +1,50 @@
 -- `connect::emit` meets its contract: a walk of its code, written by tools/walk from walks/emit.walk.
 -- Assumes nothing.
-use Rattle.situations.proofs.Logic.{_≡_, refl, _∙_, Bool, false, ℕ, _<_, _^_, List, [], _∷_, lit<, leb, length, URA, fullShare, Ty, named, erased, imm, mut, w8, w16, w32, w64, tyInt, tyBool, tyUnit, tyRef, Val, vunit, vint, vbool, vptr, SProp, ent, Lft, Share, GName, ftrue, flft, Memory, Routine, Heap, Env, WpFn, Tables, Atoms, Fun, tablesOf, givenOf, tables, Given, Sq, runs, atRet, ‵, _⊛_, ⋆, _$_, _∵_, !, qed, by, move, keep, split, join, fsplit, fjoin, suffices, done, look, init, forget, stop, hop, fld, from, load, lit, addr, and-then, no-more, land, of-opd, assigns, returns-within, enter, alloc1, alloc0, params1, pass1, pass0, agg, whole, sub, look-in, fmOf, WpFn-mono, owns, Is, pointee, RefT, sliceTy, sliceVal, MutSlice, ShrSlice, Room, slice-vals, mut-slice-tells, shr-slice-tells, uint-makes, uint-vals, uint-tells, u8, u16, usize, owned, nothing, plain, onEntry, Meets, tripleOf, Triple, entered, cited, says, needs, Stays, stay-none, stay-slice, stay-none-slice, walkOf, goes-none, goes-slice, goes-none-slice, Walks, ends-at, walked, walk-meets, yes}
-use Rattle.situations.proofs.Walk.{empty, full, holds, fails, guards}
-use Rattle.situations.proofs.Freed.{bare, held, released}
-use Rattle.situations.proofs.Lent.{lentAt, lend, regain, lend-shared, regain-shared, share}
+use Rattle.walks.proofs.Logic.{_≡_, refl, _∙_, Bool, false, ℕ, _<_, _^_, List, [], _∷_, lit<, leb, length, URA, fullShare, Ty, named, erased, imm, mut, w8, w16, w32, w64, tyInt, tyBool, tyUnit, tyRef, Val, vunit, vint, vbool, vptr, SProp, ent, Lft, Share, GName, ftrue, flft, Memory, Routine, Heap, Env, WpFn, Tables, Atoms, Fun, tablesOf, givenOf, tables, Given, Sq, runs, atRet, ‵, _⊛_, ⋆, _$_, _∵_, !, qed, by, move, keep, split, join, fsplit, fjoin, suffices, done, look, init, forget, stop, hop, fld, from, load, lit, addr, and-then, no-more, land, of-opd, assigns, returns-within, enter, alloc1, alloc0, params1, pass1, pass0, agg, whole, sub, look-in, fmOf, WpFn-mono, owns, Is, pointee, RefT, sliceTy, sliceVal, MutSlice, ShrSlice, Room, slice-vals, mut-slice-tells, shr-slice-tells, uint-makes, uint-vals, uint-tells, u8, u16, usize, owned, nothing, plain, onEntry, Meets, tripleOf, Triple, entered, cited, says, needs, Stays, stay-none, stay-slice, stay-none-slice, walkOf, goes-none, goes-slice, goes-none-slice, Walks, ends-at, walked, walk-meets, yes}
+use Rattle.walks.proofs.Branches.{empty, full, holds, fails, guards}
+use Rattle.walks.proofs.Freed.{bare, held, released}
+use Rattle.walks.proofs.Lent.{lentAt, lend, regain, lend-shared, regain-shared, share}
 use denote.Struct.Laws as LL
 use Rattle.connect.proofs.emit as this
 use Rattle.connect.proofs.emit.Statement as this-stated
 use Rattle.connect.proofs.emit.Code as this-code
 use Rattle.connect.proofs.emit.Code.Mir as this-mir
 use Rattle.connect.proofs.emit.Key.{name as #connect·emit}
-use Rattle.numbering.proofs.NumberStatesCall.{calls-number-states, number-states-contract}
+use Rattle.numbering.proofs.calls.NumberStates.{calls-number-states, number-states-contract}
 use Rattle.numbering.proofs.number_states.Symbol as number-states-def
 use Rattle.numbering.proofs.number_states.Symbol.{name as #numbering·number-states}
 use Rattle.numbering.proofs.number_states.Met as number-states-thm
 use Rattle.numbering.specs.Kept.{Shown, WorkLists, rowsIn, statesIn}
-use Rattle.situations.specs.Lists.{linksOf, marksOf, presentOf}
+use Rattle.table.specs.Lists.{linksOf, marksOf, presentOf}
 use Rattle.numbering.specs.Work.{NumberedInto, Unnumbered}
-use Rattle.numbering.proofs.PlanLengthCall.{calls-plan-length, plan-length-contract}
+use Rattle.numbering.proofs.calls.PlanLength.{calls-plan-length, plan-length-contract}
 use Rattle.numbering.proofs.plan_length.Symbol as plan-length-def
 use Rattle.numbering.proofs.plan_length.Symbol.{name as #numbering·plan-length}
 use Rattle.numbering.proofs.plan_length.Met as plan-length-thm
 use Rattle.model.specs.Plan.{planBytes}
-use Rattle.connect.proofs.FitsCall.{calls-fits, fits-contract}
+use Rattle.connect.proofs.calls.Fits.{calls-fits, fits-contract}
 use Rattle.connect.proofs.fits.Symbol as fits-def
 use Rattle.connect.proofs.fits.Symbol.{name as #connect·fits}
 use Rattle.connect.proofs.fits.Met as fits-thm
-use Rattle.connect.proofs.SheetNameCountCall.{calls-name-count, name-count-contract}
+use Rattle.connect.proofs.calls.SheetNameCount.{calls-name-count, name-count-contract}
 use Rattle.sheet.proofs.name_count.Symbol as name-count-def
 use Rattle.sheet.proofs.name_count.Symbol.{name as #sheet·name-count}
 use Rattle.sheet.proofs.name_count.Met as name-count-thm
 use Rattle.sheet.specs.Whole.{IsSheet}
 use Rattle.model.specs.Sheet.{contractIn}
-use Rattle.numbering.proofs.WritePlanCall.{calls-write-plan, write-plan-contract}
+use Rattle.numbering.proofs.calls.WritePlan.{calls-write-plan, write-plan-contract}
 use Rattle.numbering.proofs.write_plan.Symbol as write-plan-def
 use Rattle.numbering.proofs.write_plan.Symbol.{name as #numbering·write-plan}
 use Rattle.numbering.proofs.write_plan.Met as write-plan-thm
-use Rattle.connect.proofs.WithCountsCall.{calls-with-counts, with-counts-contract}
+use Rattle.connect.proofs.calls.WithCounts.{calls-with-counts, with-counts-contract}
 use Rattle.connect.proofs.with_counts.Symbol as with-counts-def
 use Rattle.connect.proofs.with_counts.Symbol.{name as #connect·with-counts}
 use Rattle.connect.proofs.with_counts.Met as with-counts-thm
 use Rattle.connect.specs.Answers.{Writes, answerOf, counting}
 use Rattle.connect.proofs.Emitting.{numbered-lists, numbered-shown, numbered-states, plan-emitted, plan-fits, plan-refused}
 use Rattle.model.specs.Connect.{emitted}
-use Rattle.situations.proofs.Record as Record-row
-use Rattle.situations.specs.declared.Record.{Record}
+use Rattle.table.proofs.Record as Record-row
+use Rattle.table.specs.declared.Record.{Record}
 use Rattle.connect.proofs.Answer as Answer-row
 use Rattle.connect.proofs.Answer.Laws as Answer-laws
 use Rattle.connect.specs.declared.Answer.{Answer}

@@ -1,43 +1,43 @@
 -- `connect::relate` meets its contract: a walk of its code, written by tools/walk from walks/relate.walk.
 -- Assumes nothing.
-use Rattle.situations.proofs.Logic.{_≡_, refl, _∙_, not, ℕ, _<_, _^_, List, [], _∷_, lit<, eqb, length, URA, fullShare, Ty, named, erased, imm, mut, w8, w16, w64, tyInt, tyBool, tyRef, Val, vint, vbool, vptr, SProp, ent, Lft, Share, GName, ftrue, flft, Memory, Routine, Heap, Env, WpFn, Tables, Atoms, Fun, tablesOf, givenOf, tables, Given, Sq, runs, atRet, ‵, _⊛_, ⋆, _$_, _∵_, !, qed, by, move, keep, split, join, fsplit, fjoin, suffices, done, look, init, stop, hop, fld, from, load, lit, addr, and-then, no-more, land, bin, assigns, returns-within, enter, alloc1, alloc0, params1, pass1, pass0, agg, whole, sub, look-in, fmOf, WpFn-mono, owns, Is, pointee, RefT, sliceTy, sliceVal, MutSlice, ShrSlice, Room, slice-vals, mut-slice-tells, shr-slice-tells, uint-makes, uint-vals, uint-tells, u8, usize, owned, nothing, plain, onEntry, Meets, tripleOf, Triple, entered, cited, says, needs, Stays, stay-none, stay-slice, stay-none-slice, walkOf, goes-none, goes-slice, goes-none-slice, Walks, ends-at, walked, walk-meets, yes}
-use Rattle.situations.proofs.Walk.{empty, full, unequal, not-unequal, guards}
-use Rattle.situations.proofs.Freed.{bare, held, released}
-use Rattle.situations.proofs.Lent.{lentAt, lend, regain, lend-shared, regain-shared, share}
+use Rattle.walks.proofs.Logic.{_≡_, refl, _∙_, not, ℕ, _<_, _^_, List, [], _∷_, lit<, eqb, length, URA, fullShare, Ty, named, erased, imm, mut, w8, w16, w64, tyInt, tyBool, tyRef, Val, vint, vbool, vptr, SProp, ent, Lft, Share, GName, ftrue, flft, Memory, Routine, Heap, Env, WpFn, Tables, Atoms, Fun, tablesOf, givenOf, tables, Given, Sq, runs, atRet, ‵, _⊛_, ⋆, _$_, _∵_, !, qed, by, move, keep, split, join, fsplit, fjoin, suffices, done, look, init, stop, hop, fld, from, load, lit, addr, and-then, no-more, land, bin, assigns, returns-within, enter, alloc1, alloc0, params1, pass1, pass0, agg, whole, sub, look-in, fmOf, WpFn-mono, owns, Is, pointee, RefT, sliceTy, sliceVal, MutSlice, ShrSlice, Room, slice-vals, mut-slice-tells, shr-slice-tells, uint-makes, uint-vals, uint-tells, u8, usize, owned, nothing, plain, onEntry, Meets, tripleOf, Triple, entered, cited, says, needs, Stays, stay-none, stay-slice, stay-none-slice, walkOf, goes-none, goes-slice, goes-none-slice, Walks, ends-at, walked, walk-meets, yes}
+use Rattle.walks.proofs.Branches.{empty, full, unequal, not-unequal, guards}
+use Rattle.walks.proofs.Freed.{bare, held, released}
+use Rattle.walks.proofs.Lent.{lentAt, lend, regain, lend-shared, regain-shared, share}
 use denote.Struct.Laws as LL
 use Rattle.connect.proofs.relate as this
 use Rattle.connect.proofs.relate.Statement as this-stated
 use Rattle.connect.proofs.relate.Code as this-code
 use Rattle.connect.proofs.relate.Code.Mir as this-mir
 use Rattle.connect.proofs.relate.Key.{name as #connect·relate}
-use Rattle.rounds.proofs.SettleCall.{calls-settle, settle-contract}
+use Rattle.rounds.proofs.calls.Settle.{calls-settle, settle-contract}
 use Rattle.rounds.proofs.settle.Symbol as settle-def
 use Rattle.rounds.proofs.settle.Symbol.{name as #rounds·settle}
 use Rattle.rounds.proofs.settle.Met as settle-thm
 use Rattle.rounds.specs.Settled.{WorkTable}
-use Rattle.situations.specs.Lists.{keysOf, linksOf, presentOf}
-use Rattle.situations.specs.Fresh.{Fresh}
-use Rattle.table.specs.Masks.{Filled}
+use Rattle.table.specs.Lists.{keysOf, linksOf, presentOf}
+use Rattle.table.specs.Fresh.{Fresh}
+use Rattle.keys.specs.Masks.{Filled}
 use Rattle.model.specs.Sheet.{contractIn}
-use Rattle.situations.proofs.LoadCall.{calls-load, load-contract}
-use Rattle.situations.proofs.load.Symbol as load-def
-use Rattle.situations.proofs.load.Symbol.{name as #situations·load}
-use Rattle.situations.proofs.load.Met as load-thm
-use Rattle.connect.proofs.WithCountsCall.{calls-with-counts, with-counts-contract}
+use Rattle.table.proofs.calls.Load.{calls-load, load-contract}
+use Rattle.table.proofs.load.Symbol as load-def
+use Rattle.table.proofs.load.Symbol.{name as #table·load}
+use Rattle.table.proofs.load.Met as load-thm
+use Rattle.connect.proofs.calls.WithCounts.{calls-with-counts, with-counts-contract}
 use Rattle.connect.proofs.with_counts.Symbol as with-counts-def
 use Rattle.connect.proofs.with_counts.Symbol.{name as #connect·with-counts}
 use Rattle.connect.proofs.with_counts.Met as with-counts-thm
 use Rattle.connect.specs.Answers.{Writes}
-use Rattle.connect.proofs.EmitCall.{calls-emit, emit-contract}
+use Rattle.connect.proofs.calls.Emit.{calls-emit, emit-contract}
 use Rattle.connect.proofs.emit.Symbol as emit-def
 use Rattle.connect.proofs.emit.Symbol.{name as #connect·emit}
 use Rattle.connect.proofs.emit.Met as emit-thm
 use Rattle.model.specs.Connect.{emitted}
 use Rattle.connect.proofs.Relating.{emit-needs, relate-kept, relate-removed, start-there}
 use Rattle.connect.specs.Related.{relatedIn}
-use Rattle.situations.proofs.Record as Record-row
-use Rattle.situations.proofs.Record.Laws as Record-laws
-use Rattle.situations.specs.declared.Record.{Record}
+use Rattle.table.proofs.Record as Record-row
+use Rattle.table.proofs.Record.Laws as Record-laws
+use Rattle.table.specs.declared.Record.{Record}
 use Rattle.connect.proofs.Answer as Answer-row
 use Rattle.connect.proofs.Answer.Laws as Answer-laws
 use Rattle.connect.specs.declared.Answer.{Answer}
@@ -107,7 +107,7 @@ module _ {M : Type 1} (𝓤 : URA M) (H : Heap 𝓤) (A : Atoms 𝓤) (W : Given
       suffices ! _ (ends-at 𝓤 H A this.ended stayed (this.clauses 𝓤 H A mem run) W (((κ-old, (κ-new, (κ-work, (κ-plan, tt)))), (q-old, (q-new, (q-work, (q-plan, tt)))), tt, args, machine), tt) (Answer-laws.lowered r) r (tt, (tt, (tt, (work′, (plan′, (tt, tt)))))) (tt, (tt, (tt, (long-work, (long-plan, (tt, tt))))))) $ says ! said $
       owned ! Answer-row.the-row (Is Answer-row.the-row) (LL.makes Answer-row.the-type Answer-laws.the-plain 𝓤 H A) r _ is-res $ nothing ! $ owned ! usize (Is usize) (uint-makes 𝓤 H A W w64) count _ (refl, fits-count) $ fjoin ! $ move ! (8 ∷ 0 ∷ []) $ fjoin ! $ move ! (6 ∷ 0 ∷ []) $ fjoin ! $ move ! (4 ∷ 0 ∷ []) $ fjoin ! $ move ! (2 ∷ 0 ∷ []) $ fjoin ! $ owned ! u8 (Is u8) (uint-makes 𝓤 H A W w8) k _ (refl, fits-k) $ fjoin ! $ nothing ! $ move ! (6 ∷ 0 ∷ []) $ join ! $ move ! (5 ∷ 0 ∷ []) $ join ! $ move ! (4 ∷ 0 ∷ []) $ join ! $ move ! (3 ∷ 0 ∷ []) $ join ! $ done !
 
-  module _ (𝓣 : Tables 𝓤 H) (known-settle : Triple 𝓤 (𝓣 .C #rounds·settle) (settle-contract 𝓤 H A mem run)) (known-load : Triple 𝓤 (𝓣 .C #situations·load) (load-contract 𝓤 H A mem run)) (known-with-counts : Triple 𝓤 (𝓣 .C #connect·with-counts) (with-counts-contract 𝓤 H A mem run)) (known-emit : Triple 𝓤 (𝓣 .C #connect·emit) (emit-contract 𝓤 H A mem run)) where
+  module _ (𝓣 : Tables 𝓤 H) (known-settle : Triple 𝓤 (𝓣 .C #rounds·settle) (settle-contract 𝓤 H A mem run)) (known-load : Triple 𝓤 (𝓣 .C #table·load) (load-contract 𝓤 H A mem run)) (known-with-counts : Triple 𝓤 (𝓣 .C #connect·with-counts) (with-counts-contract 𝓤 H A mem run)) (known-emit : Triple 𝓤 (𝓣 .C #connect·emit) (emit-contract 𝓤 H A mem run)) where
     module _ (l0 l1 l2 l3 l4 l5 l6 l7 l8 l9 l10 l11 l12 l13 l14 l15 l16 l17 : ℕ) where
       abbrev En : Env 𝓤 H
       En = (Answer-laws.mir, l0) ∷ ((tyInt w8), l1) ∷ (τ0, l2) ∷ (τ1, l3) ∷ (τ2, l4) ∷ (τ3, l5) ∷ ((tyInt w64), l6) ∷ ((tyInt w16), l7) ∷ (Record-laws.mir, l8) ∷ (τ4, l9) ∷ (τ5, l10) ∷ (τ6, l11) ∷ (τ7, l12) ∷ (tyBool, l13) ∷ (τ4, l14) ∷ (τ5, l15) ∷ (τ8, l16) ∷ (τ9, l17) ∷ []
@@ -150,11 +150,11 @@ module _ {M : Type 1} (𝓤 : URA M) (H : Heap 𝓤) (A : Atoms 𝓤) (W : Given
         pass1 ! (init ! 32 refl (tt, record { fits = fits-k })) $ pass1 ! (init ! 30 refl (tt, (tt, (record { fits = room-old .0 }, tt)))) $ pass1 ! (init ! 28 refl (tt, (tt, (record { fits = room-new .0 }, tt)))) $ pass1 ! (init ! 26 refl (tt, (tt, (record { fits = room-work .0 }, tt)))) $ pass1 ! (init ! 24 refl (tt, (tt, (record { fits = room-plan .0 }, tt)))) $ pass1 ! (init ! 22 refl (tt, record { fits = fits-count })) $ pass0 ! $ move ! (36 ∷ 37 ∷ 38 ∷ 39 ∷ 40 ∷ 41 ∷ 42 ∷ 43 ∷ []) $ part-1 l0 l1 l2 l3 l4 l5 l6 l7 l8 l9 l10 l11 l12 l13 l14 l15 l16 l17))))))))))))))))))
 
 module _ {M : Type 1} (𝓤 : URA M) (H : Heap 𝓤) (A : Atoms 𝓤) (W : Given 𝓤 H A) (mem : Memory → SProp 𝓤) (run : Routine → Fun 𝓤) where
-  relate-walks : (𝓣 : Tables 𝓤 H) → Triple 𝓤 (𝓣 .C #rounds·settle) (settle-contract 𝓤 H A mem run) → Triple 𝓤 (𝓣 .C #situations·load) (load-contract 𝓤 H A mem run) → Triple 𝓤 (𝓣 .C #connect·with-counts) (with-counts-contract 𝓤 H A mem run) → Triple 𝓤 (𝓣 .C #connect·emit) (emit-contract 𝓤 H A mem run) → Walks 𝓤 H A this.ended stayed (WpFn 𝓤 H (𝓣 .C) (𝓣 .Λ) this-code.function) (this.clauses 𝓤 H A mem run)
+  relate-walks : (𝓣 : Tables 𝓤 H) → Triple 𝓤 (𝓣 .C #rounds·settle) (settle-contract 𝓤 H A mem run) → Triple 𝓤 (𝓣 .C #table·load) (load-contract 𝓤 H A mem run) → Triple 𝓤 (𝓣 .C #connect·with-counts) (with-counts-contract 𝓤 H A mem run) → Triple 𝓤 (𝓣 .C #connect·emit) (emit-contract 𝓤 H A mem run) → Walks 𝓤 H A this.ended stayed (WpFn 𝓤 H (𝓣 .C) (𝓣 .Λ) this-code.function) (this.clauses 𝓤 H A mem run)
   relate-walks 𝓣 known-settle known-load known-with-counts known-emit = walked 𝓤 H A this.ended stayed (this.clauses 𝓤 H A mem run) (WpFn 𝓤 H (𝓣 .C) (𝓣 .Λ) this-code.function)
       (λ κs. (uint-vals w8, (slice-vals, (slice-vals, (slice-vals, (slice-vals, (uint-vals w64, tt))))))) (λ κs. (uint-tells w8, (shr-slice-tells (named 0) (κs .0) u8, (shr-slice-tells (named 1) (κs .1 .0) u8, (mut-slice-tells (named 2) (κs .1 .1 .0) Record-row.the-row, (mut-slice-tells (named 3) (κs .1 .1 .1 .0) u8, (uint-tells w64, tt))))))) (λ κs qs bounds a g are. needs 𝓤 (WorkTable ((a .1 .0 .now)) ((a .1 .1 .0 .now)) (keysOf ((a .1 .1 .1 .0 .now))) (linksOf ((a .1 .1 .1 .0 .now))) (length ((a .1 .1 .1 .0 .now))) (a .1 .1 .1 .1 .1 .0) × (0 < (a .1 .1 .1 .1 .1 .0)) × Fresh (a .1 .1 .1 .1 .1 .0) ((a .1 .1 .1 .0 .now)) × Filled (a .1 .1 .1 .1 .1 .0) (linksOf ((a .1 .1 .1 .0 .now))) (presentOf ((a .1 .1 .1 .0 .now)))) _ (λ needed. walk 𝓤 H A W mem run (a .0) (κs .0) (qs .0) (a .1 .0 .ptr .0) (a .1 .0 .ptr .1) (a .1 .0 .name) (a .1 .0 .now) (κs .1 .0) (qs .1 .0) (a .1 .1 .0 .ptr .0) (a .1 .1 .0 .ptr .1) (a .1 .1 .0 .name) (a .1 .1 .0 .now) (κs .1 .1 .0) (qs .1 .1 .0) (a .1 .1 .1 .0 .ptr .0) (a .1 .1 .1 .0 .ptr .1) (a .1 .1 .1 .0 .name) (a .1 .1 .1 .0 .now) (κs .1 .1 .1 .0) (qs .1 .1 .1 .0) (a .1 .1 .1 .1 .0 .ptr .0) (a .1 .1 .1 .1 .0 .ptr .1) (a .1 .1 .1 .1 .0 .name) (a .1 .1 .1 .1 .0 .now) (a .1 .1 .1 .1 .1 .0) (are .0 .1) (are .1 .0 .0 .1) (are .1 .1 .0 .0 .1) (are .1 .1 .1 .0 .0 .1) (are .1 .1 .1 .1 .0 .0 .1) (are .1 .1 .1 .1 .1 .0 .1) needed 𝓣 known-settle known-load known-with-counts known-emit))
 
-  relate-meets : (𝓣 : Tables 𝓤 H) → Triple 𝓤 (𝓣 .C #rounds·settle) (settle-contract 𝓤 H A mem run) → Triple 𝓤 (𝓣 .C #situations·load) (load-contract 𝓤 H A mem run) → Triple 𝓤 (𝓣 .C #connect·with-counts) (with-counts-contract 𝓤 H A mem run) → Triple 𝓤 (𝓣 .C #connect·emit) (emit-contract 𝓤 H A mem run) → Meets 𝓤 H A this.signature (WpFn 𝓤 H (𝓣 .C) (𝓣 .Λ) this-code.function) (this.spec 𝓤 H A mem run)
+  relate-meets : (𝓣 : Tables 𝓤 H) → Triple 𝓤 (𝓣 .C #rounds·settle) (settle-contract 𝓤 H A mem run) → Triple 𝓤 (𝓣 .C #table·load) (load-contract 𝓤 H A mem run) → Triple 𝓤 (𝓣 .C #connect·with-counts) (with-counts-contract 𝓤 H A mem run) → Triple 𝓤 (𝓣 .C #connect·emit) (emit-contract 𝓤 H A mem run) → Meets 𝓤 H A this.signature (WpFn 𝓤 H (𝓣 .C) (𝓣 .Λ) this-code.function) (this.spec 𝓤 H A mem run)
   relate-meets 𝓣 known-settle known-load known-with-counts known-emit = walk-meets 𝓤 H A this.ended stayed W (goes-none 𝓤 H A W 4 (λ _. u8) yes (λ κs x f. refl), (goes-none-slice 𝓤 H A W 4 (0 ∷ []) tt (plain (λ _. u8)) yes, (goes-none-slice 𝓤 H A W 4 (1 ∷ []) tt (plain (λ _. u8)) yes, (goes-slice 𝓤 H A W 4 2 tt (plain (λ _. Record-row.the-row)), (goes-slice 𝓤 H A W 4 3 tt (plain (λ _. u8)), (goes-none 𝓤 H A W 4 (λ _. usize) yes (λ κs x f. refl), tt)))))) (this.clauses 𝓤 H A mem run)
       (WpFn 𝓤 H (𝓣 .C) (𝓣 .Λ) this-code.function) (WpFn-mono 𝓤 H (W .laws) 𝓣 this-code.function) (relate-walks 𝓣 known-settle known-load known-with-counts known-emit)
 
@@ -165,6 +165,6 @@ relate-spec 𝓤 H 𝓜 𝓖 𝓡 =
     (tables 𝓤 H 𝓜 𝓡 this-code.env .C) (tables 𝓤 H 𝓜 𝓡 this-code.env .Λ) #connect·relate this-code.function (this-code.unfolded 𝓤 H 𝓜 𝓡)
     (relate-meets 𝓤 H (𝓖 .A) (givenOf 𝓤 H 𝓜 𝓖) (𝓜 .mem) (𝓡 .run) (tablesOf 𝓤 H 𝓜 (tables 𝓤 H 𝓜 𝓡 this-code.env))
     (cited 𝓤 H (settle-contract 𝓤 H (𝓖 .A) (𝓜 .mem) (𝓡 .run)) 𝓜 𝓡 this-code.env #rounds·settle settle-def.routine this-code.calls-rounds·settle (settle-thm.met 𝓤 H 𝓜 𝓖 𝓡))
-    (cited 𝓤 H (load-contract 𝓤 H (𝓖 .A) (𝓜 .mem) (𝓡 .run)) 𝓜 𝓡 this-code.env #situations·load load-def.routine this-code.calls-situations·load (load-thm.met 𝓤 H 𝓜 𝓖 𝓡))
+    (cited 𝓤 H (load-contract 𝓤 H (𝓖 .A) (𝓜 .mem) (𝓡 .run)) 𝓜 𝓡 this-code.env #table·load load-def.routine this-code.calls-table·load (load-thm.met 𝓤 H 𝓜 𝓖 𝓡))
     (cited 𝓤 H (with-counts-contract 𝓤 H (𝓖 .A) (𝓜 .mem) (𝓡 .run)) 𝓜 𝓡 this-code.env #connect·with-counts with-counts-def.routine this-code.calls-connect·with-counts (with-counts-thm.met 𝓤 H 𝓜 𝓖 𝓡))
     (cited 𝓤 H (emit-contract 𝓤 H (𝓖 .A) (𝓜 .mem) (𝓡 .run)) 𝓜 𝓡 this-code.env #connect·emit emit-def.routine this-code.calls-connect·emit (emit-thm.met 𝓤 H 𝓜 𝓖 𝓡)))

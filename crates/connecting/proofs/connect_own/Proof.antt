@@ -1,21 +1,21 @@
 -- `connecting::connect_own` meets its contract: a walk of its code, written by tools/walk from walks/connect_own.walk.
 -- Assumes nothing.
-use Rattle.situations.proofs.Logic.{_≡_, refl, _∙_, ℕ, _<_, _^_, List, [], _∷_, lit<, length, URA, fullShare, Ty, named, erased, imm, mut, w8, tyInt, tyRef, tyArray, Val, vint, vptr, SProp, ent, emp, via, fst∗, Lft, Share, GName, ftrue, flft, Memory, Routine, Heap, Env, WpFn, Tables, Atoms, Fun, tablesOf, givenOf, tables, Given, Sq, runs, atRet, ‵, _⊛_, ⋆, _$_, _∵_, !, qed, by, move, keep, split, join, fsplit, fjoin, suffices, done, look, init, stop, hop, fld, from, load, addr, and-then, no-more, land, assigns, returns-within, enter, alloc1, alloc0, params1, pass1, pass0, agg, rep, whole, sub, look-in, fmOf, WpFn-mono, owns, Is, pointee, RefT, sliceTy, sliceVal, MutSlice, ShrSlice, Room, slice-vals, mut-slice-tells, shr-slice-tells, uint-makes, uint-vals, uint-tells, u8, owned, nothing, plain, onEntry, Meets, tripleOf, Triple, entered, cited, says, Stays, stay-none, stay-slice, stay-none-slice, walkOf, goes-none, goes-slice, goes-none-slice, Walks, ends-at, walked, walk-meets, yes}
-use Rattle.situations.proofs.Walk.{empty, full}
-use Rattle.situations.proofs.Freed.{bare, held, released}
-use Rattle.situations.proofs.Lent.{lentAt, lend, regain, share}
-use Rattle.situations.proofs.LocalTable.{big-lit, array-fits, open-table, close-table}
+use Rattle.walks.proofs.Logic.{_≡_, refl, _∙_, ℕ, _<_, _^_, List, [], _∷_, lit<, length, URA, fullShare, Ty, named, erased, imm, mut, w8, tyInt, tyRef, tyArray, Val, vint, vptr, SProp, ent, emp, via, fst∗, Lft, Share, GName, ftrue, flft, Memory, Routine, Heap, Env, WpFn, Tables, Atoms, Fun, tablesOf, givenOf, tables, Given, Sq, runs, atRet, ‵, _⊛_, ⋆, _$_, _∵_, !, qed, by, move, keep, split, join, fsplit, fjoin, suffices, done, look, init, stop, hop, fld, from, load, addr, and-then, no-more, land, assigns, returns-within, enter, alloc1, alloc0, params1, pass1, pass0, agg, rep, whole, sub, look-in, fmOf, WpFn-mono, owns, Is, pointee, RefT, sliceTy, sliceVal, MutSlice, ShrSlice, Room, slice-vals, mut-slice-tells, shr-slice-tells, uint-makes, uint-vals, uint-tells, u8, owned, nothing, plain, onEntry, Meets, tripleOf, Triple, entered, cited, says, Stays, stay-none, stay-slice, stay-none-slice, walkOf, goes-none, goes-slice, goes-none-slice, Walks, ends-at, walked, walk-meets, yes}
+use Rattle.walks.proofs.Branches.{empty, full}
+use Rattle.walks.proofs.Freed.{bare, held, released}
+use Rattle.walks.proofs.Lent.{lentAt, lend, regain, share}
+use Rattle.walks.proofs.LocalTable.{big-lit, array-fits, open-table, close-table}
 use denote.Struct.Laws as LL
 use Rattle.connecting.proofs.connect_own as this
 use Rattle.connecting.proofs.connect_own.Statement as this-stated
 use Rattle.connecting.proofs.connect_own.Code as this-code
 use Rattle.connecting.proofs.connect_own.Code.Mir as this-mir
 use Rattle.connecting.proofs.connect_own.Key.{name as #connecting·connect-own}
-use Rattle.situations.proofs.ZeroRecordCall.{calls-zero-record, zero-record-contract}
-use Rattle.situations.proofs.zero_record.Symbol as zero-record-def
-use Rattle.situations.proofs.zero_record.Symbol.{name as #situations·zero-record}
-use Rattle.situations.proofs.zero_record.Met as zero-record-thm
-use Rattle.connect.proofs.ConnectCall.{calls-connect, connect-contract}
+use Rattle.table.proofs.calls.ZeroRecord.{calls-zero-record, zero-record-contract}
+use Rattle.table.proofs.zero_record.Symbol as zero-record-def
+use Rattle.table.proofs.zero_record.Symbol.{name as #table·zero-record}
+use Rattle.table.proofs.zero_record.Met as zero-record-thm
+use Rattle.connect.proofs.calls.Connect.{calls-connect, connect-contract}
 use Rattle.connect.proofs.connect.Symbol as connect-def
 use Rattle.connect.proofs.connect.Symbol.{name as #connect·connect}
 use Rattle.connect.proofs.connect.Met as connect-thm
@@ -25,8 +25,8 @@ use Rattle.connecting.specs.Own.{ownOf}
 use Rattle.connect.proofs.Answer as Answer-row
 use Rattle.connect.proofs.Answer.Laws as Answer-laws
 use Rattle.connect.specs.declared.Answer.{Answer}
-use Rattle.situations.proofs.Record as Record-row
-use Rattle.situations.proofs.Record.Laws as Record-laws
+use Rattle.table.proofs.Record as Record-row
+use Rattle.table.proofs.Record.Laws as Record-laws
 
 abbrev τ0 : Ty
 τ0 = sliceTy (tyRef (named 0) imm (tyInt w8))
@@ -87,7 +87,7 @@ module _ {M : Type 1} (𝓤 : URA M) (H : Heap 𝓤) (A : Atoms 𝓤) (W : Given
       suffices ! _ (ends-at 𝓤 H A this.ended stayed (this.clauses 𝓤 H A mem run) W (((κ-old, (κ-new, (κ-plan, tt))), (q-old, (q-new, (q-plan, tt))), tt, args, machine), tt) (Answer-laws.lowered r) r (tt, (tt, (tt, (plan′, tt)))) (tt, (tt, (tt, (long-plan, tt))))) $ says ! said $
       owned ! Answer-row.the-row (Is Answer-row.the-row) (LL.makes Answer-row.the-type Answer-laws.the-plain 𝓤 H A) r _ is-res $ nothing ! $ move ! (6 ∷ 0 ∷ []) $ fjoin ! $ move ! (4 ∷ 0 ∷ []) $ fjoin ! $ move ! (2 ∷ 0 ∷ []) $ fjoin ! $ owned ! u8 (Is u8) (uint-makes 𝓤 H A W w8) k _ (refl, fits-k) $ fjoin ! $ nothing ! $ move ! (5 ∷ 0 ∷ []) $ join ! $ move ! (4 ∷ 0 ∷ []) $ join ! $ move ! (3 ∷ 0 ∷ []) $ join ! $ done !
 
-  module _ (𝓣 : Tables 𝓤 H) (known-zero-record : Triple 𝓤 (𝓣 .C #situations·zero-record) (zero-record-contract 𝓤 H A mem run)) (known-connect : Triple 𝓤 (𝓣 .C #connect·connect) (connect-contract 𝓤 H A mem run)) where
+  module _ (𝓣 : Tables 𝓤 H) (known-zero-record : Triple 𝓤 (𝓣 .C #table·zero-record) (zero-record-contract 𝓤 H A mem run)) (known-connect : Triple 𝓤 (𝓣 .C #connect·connect) (connect-contract 𝓤 H A mem run)) where
     module _ (l0 l1 l2 l3 l4 l5 l6 l7 l8 l9 l10 : ℕ) where
       abbrev En : Env 𝓤 H
       En = (Answer-laws.mir, l0) ∷ ((tyInt w8), l1) ∷ (τ0, l2) ∷ (τ1, l3) ∷ (τ2, l4) ∷ (Record-laws.mir, l5) ∷ (τ3, l6) ∷ (τ4, l7) ∷ (τ5, l8) ∷ (τ6, l9) ∷ (τ7, l10) ∷ []
@@ -117,11 +117,11 @@ module _ {M : Type 1} (𝓤 : URA M) (H : Heap 𝓤) (A : Atoms 𝓤) (W : Given
         pass1 ! (init ! 18 refl (tt, record { fits = fits-k })) $ pass1 ! (init ! 16 refl (tt, (tt, (record { fits = room-old .0 }, tt)))) $ pass1 ! (init ! 14 refl (tt, (tt, (record { fits = room-new .0 }, tt)))) $ pass1 ! (init ! 12 refl (tt, (tt, (record { fits = room-plan .0 }, tt)))) $ pass0 ! $ move ! (22 ∷ 23 ∷ 24 ∷ 25 ∷ 26 ∷ 27 ∷ []) $ part-1 l0 l1 l2 l3 l4 l5 l6 l7 l8 l9 l10)))))))))))
 
 module _ {M : Type 1} (𝓤 : URA M) (H : Heap 𝓤) (A : Atoms 𝓤) (W : Given 𝓤 H A) (mem : Memory → SProp 𝓤) (run : Routine → Fun 𝓤) where
-  connect-own-walks : (𝓣 : Tables 𝓤 H) → Triple 𝓤 (𝓣 .C #situations·zero-record) (zero-record-contract 𝓤 H A mem run) → Triple 𝓤 (𝓣 .C #connect·connect) (connect-contract 𝓤 H A mem run) → Walks 𝓤 H A this.ended stayed (WpFn 𝓤 H (𝓣 .C) (𝓣 .Λ) this-code.function) (this.clauses 𝓤 H A mem run)
+  connect-own-walks : (𝓣 : Tables 𝓤 H) → Triple 𝓤 (𝓣 .C #table·zero-record) (zero-record-contract 𝓤 H A mem run) → Triple 𝓤 (𝓣 .C #connect·connect) (connect-contract 𝓤 H A mem run) → Walks 𝓤 H A this.ended stayed (WpFn 𝓤 H (𝓣 .C) (𝓣 .Λ) this-code.function) (this.clauses 𝓤 H A mem run)
   connect-own-walks 𝓣 known-zero-record known-connect = walked 𝓤 H A this.ended stayed (this.clauses 𝓤 H A mem run) (WpFn 𝓤 H (𝓣 .C) (𝓣 .Λ) this-code.function)
       (λ κs. (uint-vals w8, (slice-vals, (slice-vals, (slice-vals, tt))))) (λ κs. (uint-tells w8, (shr-slice-tells (named 0) (κs .0) u8, (shr-slice-tells (named 1) (κs .1 .0) u8, (mut-slice-tells (named 2) (κs .1 .1 .0) u8, tt))))) (λ κs qs bounds a g are. via 𝓤 _ (fst∗ 𝓤 _ (emp 𝓤)) (walk 𝓤 H A W mem run (a .0) (κs .0) (qs .0) (a .1 .0 .ptr .0) (a .1 .0 .ptr .1) (a .1 .0 .name) (a .1 .0 .now) (κs .1 .0) (qs .1 .0) (a .1 .1 .0 .ptr .0) (a .1 .1 .0 .ptr .1) (a .1 .1 .0 .name) (a .1 .1 .0 .now) (κs .1 .1 .0) (qs .1 .1 .0) (a .1 .1 .1 .0 .ptr .0) (a .1 .1 .1 .0 .ptr .1) (a .1 .1 .1 .0 .name) (a .1 .1 .1 .0 .now) (are .0 .1) (are .1 .0 .0 .1) (are .1 .1 .0 .0 .1) (are .1 .1 .1 .0 .0 .1) 𝓣 known-zero-record known-connect))
 
-  connect-own-meets : (𝓣 : Tables 𝓤 H) → Triple 𝓤 (𝓣 .C #situations·zero-record) (zero-record-contract 𝓤 H A mem run) → Triple 𝓤 (𝓣 .C #connect·connect) (connect-contract 𝓤 H A mem run) → Meets 𝓤 H A this.signature (WpFn 𝓤 H (𝓣 .C) (𝓣 .Λ) this-code.function) (this.spec 𝓤 H A mem run)
+  connect-own-meets : (𝓣 : Tables 𝓤 H) → Triple 𝓤 (𝓣 .C #table·zero-record) (zero-record-contract 𝓤 H A mem run) → Triple 𝓤 (𝓣 .C #connect·connect) (connect-contract 𝓤 H A mem run) → Meets 𝓤 H A this.signature (WpFn 𝓤 H (𝓣 .C) (𝓣 .Λ) this-code.function) (this.spec 𝓤 H A mem run)
   connect-own-meets 𝓣 known-zero-record known-connect = walk-meets 𝓤 H A this.ended stayed W (goes-none 𝓤 H A W 3 (λ _. u8) yes (λ κs x f. refl), (goes-none-slice 𝓤 H A W 3 (0 ∷ []) tt (plain (λ _. u8)) yes, (goes-none-slice 𝓤 H A W 3 (1 ∷ []) tt (plain (λ _. u8)) yes, (goes-slice 𝓤 H A W 3 2 tt (plain (λ _. u8)), tt)))) (this.clauses 𝓤 H A mem run)
       (WpFn 𝓤 H (𝓣 .C) (𝓣 .Λ) this-code.function) (WpFn-mono 𝓤 H (W .laws) 𝓣 this-code.function) (connect-own-walks 𝓣 known-zero-record known-connect)
 
@@ -131,5 +131,5 @@ connect-own-spec 𝓤 H 𝓜 𝓖 𝓡 =
     entered 𝓤 H (tripleOf 𝓤 H (𝓖 .A) this.signature (this.spec 𝓤 H (𝓖 .A) (𝓜 .mem) (𝓡 .run)))
     (tables 𝓤 H 𝓜 𝓡 this-code.env .C) (tables 𝓤 H 𝓜 𝓡 this-code.env .Λ) #connecting·connect-own this-code.function (this-code.unfolded 𝓤 H 𝓜 𝓡)
     (connect-own-meets 𝓤 H (𝓖 .A) (givenOf 𝓤 H 𝓜 𝓖) (𝓜 .mem) (𝓡 .run) (tablesOf 𝓤 H 𝓜 (tables 𝓤 H 𝓜 𝓡 this-code.env))
-    (cited 𝓤 H (zero-record-contract 𝓤 H (𝓖 .A) (𝓜 .mem) (𝓡 .run)) 𝓜 𝓡 this-code.env #situations·zero-record zero-record-def.routine this-code.calls-situations·zero-record (zero-record-thm.met 𝓤 H 𝓜 𝓖 𝓡))
+    (cited 𝓤 H (zero-record-contract 𝓤 H (𝓖 .A) (𝓜 .mem) (𝓡 .run)) 𝓜 𝓡 this-code.env #table·zero-record zero-record-def.routine this-code.calls-table·zero-record (zero-record-thm.met 𝓤 H 𝓜 𝓖 𝓡))
     (cited 𝓤 H (connect-contract 𝓤 H (𝓖 .A) (𝓜 .mem) (𝓡 .run)) 𝓜 𝓡 this-code.env #connect·connect connect-def.routine this-code.calls-connect·connect (connect-thm.met 𝓤 H 𝓜 𝓖 𝓡)))

@@ -1,0 +1,43 @@
+-- Demand 3 in the words of the entry points' own contracts: what connecting, stepping and the client check ensure of their answers.
+-- Assumes nothing.
+use mathlib.Core.Path.{_≡_}
+use mathlib.Core.Bool.{true}
+use mathlib.Core.List.{List, _∷_, _++_}
+use Prim.Native.Nat.{ℕ, _*_, _≤_}
+use lib.ListN.{take}
+use lib.Dec.{T}
+use Rattle.model.specs.Contract.{Contract, has}
+use Rattle.model.specs.Sheet.{Sheet, good, readSheet, contractIn}
+use Rattle.model.specs.Plan.{rowsIn, stepOf}
+use Rattle.model.specs.Connect.{connectOf}
+use Rattle.model.specs.Client.{compliesOf}
+use Rattle.model.specs.Run.{begin, Attempt, rowAtRun, runFrom, mostAlone, Standstill}
+use Rattle.model.specs.Demands.{Follows}
+use Rattle.plan.specs.Step.{steppedOf}
+use Rattle.plan.specs.declared.Stepped.{Stepped}
+use Rattle.comply.specs.Answer.{complianceOf}
+use Rattle.comply.specs.declared.Compliance.{Compliance}
+use Rattle.table.specs.declared.Record.{Record}
+use Rattle.table.specs.Records.{blank}
+use Rattle.connect.specs.Answers.{answerOf}
+use Rattle.connect.specs.declared.Answer.{Answer}
+
+-- what holds of a plan's bytes, for a list of attempts with a client
+pub record RunsByAnswers (k : ℕ) (client old : List ℕ) (user new : Contract) (bytes : List ℕ) (attempts : List Attempt) : Type 0 where
+  -- at each attempt, what stepping answers is 0 and the row's next state if the row holds the code, else 16 and 0
+  pub steps : (before after : List Attempt) (a : Attempt) → attempts ≡ before ++ a ∷ after
+      → (answer : Stepped) → answer ≡ steppedOf (stepOf bytes (runFrom user new (rowsIn bytes) begin before .plan) (a .code))
+      → Follows (rowAtRun user new (rowsIn bytes) (runFrom user new (rowsIn bytes) begin before)) (a .code) (record { number = answer .number; state = answer .state })
+  -- where the client check of client and old contract answers yes, a standstill has the success mark
+  pub no-standstill : (answer : Compliance) → answer ≡ complianceOf (compliesOf client old) → answer .number ≡ 0 → answer .yes ≡ true
+      → (R S : ℕ) → Standstill user new (rowsIn bytes) (runFrom user new (rowsIn bytes) begin attempts) R S → T (has R 14)
+  -- at most 2 times k times n service-alone moves come in a row
+  pub few-alone : mostAlone user new (rowsIn bytes) attempts ≤ 2 * k * new .n
+
+-- Whatever connecting ensured of an accepting answer and of the lent plan, its first `length` bytes are a plan whose runs do not
+-- hang.
+abbrev pub EntryDemand-3 : Type 0
+EntryDemand-3 =
+    (k : ℕ) (old new : List ℕ) (answer : Answer) (work work′ : List Record) (plan plan′ : List ℕ) (client : List ℕ) (user : Sheet) (attempts : List Attempt)
+    → record { answer = answerOf answer; plan = plan′; work = work′ } ≡ connectOf blank k old new work plan → answer .number ≡ 0 → readSheet client ≡ good user
+    → RunsByAnswers k client old (user .contract) (contractIn new) (take (answer .length) plan′) attempts

@@ -1,0 +1,41 @@
+// The entry points for C and Rust: each hands its arguments on and its answer back. A slice passes as a pointer and then a length.
+ghost use mathlib.Core.Path.{_≡_};
+ghost use Rattle.model.specs.Connect.{connectOf};
+ghost use Rattle.model.specs.Plan.{stepOf};
+ghost use Rattle.model.specs.Client.{compliesOf};
+ghost use Rattle.plan.specs.Step.{steppedOf};
+ghost use Rattle.comply.specs.Answer.{complianceOf};
+ghost use Rattle.table.specs.Records.{blank};
+ghost use Rattle.connect.specs.Answers.{answerOf};
+use comply::Compliance;
+use plan::Stepped;
+
+// `connect::connect`.
+#[no_mangle]
+pub extern "C" fn adapter_connect(
+    k: u8,
+    old: &[u8],
+    new: &[u8],
+    work: &mut [table::Record],
+    plan: &mut [u8],
+) -> connect::Answer
+    ensures { λ r. ⌜ record { answer = answerOf r; plan = now (plan .exit); work = now (work .exit) } ≡ connectOf blank k (now (old .entry)) (now (new .entry)) (now (work .entry)) (now (plan .entry)) ⌝ }
+{
+    connect::connect(k, old, new, work, plan)
+}
+
+// `plan::step`.
+#[no_mangle]
+pub extern "C" fn adapter_step(plan: &[u8], state: u16, code: u8) -> Stepped
+    ensures { λ r. ⌜ r ≡ steppedOf (stepOf (now (plan .entry)) state code) ⌝ }
+{
+    plan::step(plan, state, code)
+}
+
+// `comply::complies`.
+#[no_mangle]
+pub extern "C" fn adapter_complies(client: &[u8], service: &[u8]) -> Compliance
+    ensures { λ r. ⌜ r ≡ complianceOf (compliesOf (now (client .entry)) (now (service .entry))) ⌝ }
+{
+    comply::complies(client, service)
+}

@@ -1,0 +1,5 @@
+pub mod LentCountRecords
+pub mod LentFoundWith
+pub mod PairsConnectLent
+pub mod PairsCounted
+pub mod PairsRecordBefore

@@ -1,0 +1,11 @@
+pub mod Checked
+pub mod Connect
+pub mod ConnectChecked
+pub mod Emit
+pub mod Fits
+pub mod LimitOf
+pub mod Refusal
+pub mod Relate
+pub mod SheetNameCount
+pub mod Wide
+pub mod WithCounts

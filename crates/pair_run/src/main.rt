@@ -1,4 +1,0 @@
-// Connects the pairs that are stored as records on standard input, and prints the answer of each call and what it left of what was lent.
-fn main() {
-    stored::answer_all(stored::Kind::Pairs);
-}

@@ -1,4 +1,0 @@
-// Checks the sheets that are stored as records on standard input, and prints number, state and offset of the refusal for each.
-fn main() {
-    stored::answer_all(stored::Kind::Sheets);
-}

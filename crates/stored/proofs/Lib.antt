@@ -1,9 +1,0 @@
-pub mod Counts
-pub mod Gives
-pub mod Need
-pub mod Run
-pub mod LentFoundWithCall
-pub mod LentCountRecordsCall
-pub mod PairsCountedCall
-pub mod PairsConnectLentCall
-pub mod PairsRecordBeforeCall
