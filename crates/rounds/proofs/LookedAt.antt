@@ -10,7 +10,8 @@ use borrow.Author.Count.{below-more}
 use Rattle.model.specs.Contract.{Contract}
 use Rattle.model.specs.Sheet.{contractIn}
 use Rattle.table.specs.declared.Record.{Record}
-use Rattle.table.specs.Records.{blank, orderSet}
+use Rattle.table.specs.Records.{blank}
+use Rattle.table.specs.Fields.{orderSet}
 use Rattle.table.specs.Lists.{marksOf, orderOf}
 use Rattle.table.proofs.Lists.{marks-length, order-length}
 use Rattle.rounds.specs.Records.{markedOf, remainsOf}

@@ -6,10 +6,11 @@ use mathlib.Core.List.{List}
 use Prim.Native.Nat.{ℕ, zero, suc, _+_, _*_, _<_}
 use native.Mathlib.Omega.{arith}
 use lib.ListN.{length, getD, set, length-set}
-use Rattle.keys.specs.Fields.{fitted}
-use Rattle.keys.proofs.Fields.{field-at, field-kept}
+use Rattle.table.specs.Columns.{fitted}
+use Rattle.table.proofs.Columns.{column-at, column-kept}
 use Rattle.table.specs.declared.Record.{Record}
-use Rattle.table.specs.Records.{blank, lastSet, beforeSet, orderSet}
+use Rattle.table.specs.Records.{blank}
+use Rattle.table.specs.Fields.{beforeSet, lastSet, orderSet}
 use Rattle.table.specs.Lists.{keyIn, presentOf, lastOf, beforeOf, marksOf, orderOf}
 use Rattle.table.proofs.Lists.{keys-kept, links-kept, numbers-kept, last-kept, before-kept, marks-kept, marks-set, order-kept, order-set, present-kept, present-set, masks}
 use Rattle.rounds.specs.Records.{inRounds, withoutBit, withoutIn, withoutOf, markedOf}
@@ -20,11 +21,11 @@ use Rattle.rounds.specs.Work.{oldsOf, newsOf, Unmoved, Steady, ChainsOnl
 module _ (ys : List Record) (i : ℕ) (h : i < length ys) where
   pub olds-at : getD (oldsOf ys) i 0 ≡ getD ys i blank .at .old
   unfolding oldsOf
-  olds-at = field-at blank (λ y. y .at .old) ys i h
+  olds-at = column-at blank (λ y. y .at .old) ys i h
 
   pub news-at : getD (newsOf ys) i 0 ≡ getD ys i blank .at .new
   unfolding newsOf
-  news-at = field-at blank (λ y. y .at .new) ys i h
+  news-at = column-at blank (λ y. y .at .new) ys i h
 
 -- ---- what stays
 
@@ -76,8 +77,8 @@ module _ (ys : List Record) (i : ℕ) where
     unfolding keyIn oldsOf newsOf
     stored-unmoved = record {
       keys = keys-kept ys i z (rw (at, packed));
-      olds = field-kept blank (λ y. y .at .old) ys i z (rw at);
-      news = field-kept blank (λ y. y .at .new) ys i z (rw at);
+      olds = column-kept blank (λ y. y .at .old) ys i z (rw at);
+      news = column-kept blank (λ y. y .at .new) ys i z (rw at);
       links = links-kept ys i z (rw next);
       numbers = numbers-kept ys i z number;
       size = length-set ys i z;
