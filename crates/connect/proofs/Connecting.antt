@@ -13,25 +13,20 @@ use Rattle.model.specs.Situation.{Situation, start, alike, same, codes, next}
 use Rattle.model.specs.Search.{Reached, at-start, by-move, Search, searchFrom}
 use Rattle.model.specs.Connect.{Outcome, refused, related, found, connected, limitOf}
 use Rattle.model.proofs.Situation.{is-same}
-use Rattle.model.proofs.Search.{search-few, search-all}
+use Rattle.model.proofs.Search.{search-all}
 use Rattle.model.proofs.Weak.{is-reached, rank-reached}
 use Rattle.model.proofs.Moves.{Within, next-within}
 use Rattle.model.proofs.Sheet.{WellFormed}
 use Rattle.sheet.specs.Whole.{IsSheet}
 use Rattle.sheet.proofs.Whole.{sheet-formed}
 use Rattle.plan.proofs.Front.{front-none}
-use Rattle.keys.specs.Keys.{KeysWithin}
-use Rattle.keys.specs.Links.{LinksWithin}
 use Rattle.keys.proofs.Keys.{Fits}
 use Rattle.table.specs.declared.Record.{Record}
-use Rattle.keys.specs.Masks.{Filled}
-use Rattle.table.specs.Lists.{keysOf, linksOf, presentOf}
-use Rattle.table.specs.Fresh.{Fresh}
-use Rattle.table.proofs.Lists.{keys-length}
-use Rattle.reached.specs.Reached.{countBy, ExploredWork}
-use Rattle.rounds.specs.Settled.{WorkTable}
-use Rattle.connect.specs.Answers.{answerOf, refusing, Writes}
-use Rattle.connect.specs.Related.{relatedIn}
+use Rattle.table.specs.Lists.{keysOf, linksOf}
+use Rattle.table.specs.States.{SearchedTable}
+use Rattle.reached.specs.Reached.{Searchable, countBy, Explored}
+use Rattle.connect.specs.Answers.{answerOf, refusing, connectedFrom, Writes}
+use Rattle.connect.specs.Related.{relatedIn, relatedFrom}
 use Rattle.connect.specs.declared.Answer.{Answer}
 use Rattle.connect.proofs.Table.{Held, related-table}
 
@@ -63,9 +58,12 @@ module _ (k : ℕ) (σ τ : Contract) (σ-formed : WellFormed σ) (τ-formed : W
 
 -- ---- the limit
 
-pub limit-few : (limit records : ℕ) → limit ≡ limitOf records → (limit ≤ 4096) × (limit ≤ records)
+-- what the search asks: as many records as are lent, and 4,096 at most
+pub search-needs : {old new : List ℕ} {k limit : ℕ} (work : List Record) → IsSheet old → IsSheet new → k ≤ 3 → limit ≡ limitOf (length work)
+    → Searchable old new k limit work
 unfolding limitOf
-limit-few limit records e = (omega arith, omega arith)
+search-needs work old-sheet new-sheet rank e =
+    record { old-sheet = old-sheet; new-sheet = new-sheet; rank = rank; few = omega arith; room = omega arith }
 
 -- ---- the outcome
 
@@ -80,8 +78,7 @@ unfolding countBy
 count-some [] n h = (refl, refl)
 count-some (s ∷ todo) n h = absurd (h refl)
 
-module _ (k : ℕ) (old new : List ℕ) (limit count : ℕ) (ys ys′ : List Record)
-    (explored : ExploredWork k (contractIn old) (contractIn new) limit count ys ys′) where
+module _ (k : ℕ) (old new : List ℕ) (limit count : ℕ) (ys ys′ : List Record) (explored : Explored old new k limit count ys ys′) where
   abbrev σ : Contract
   σ = contractIn old
 
@@ -102,7 +99,7 @@ module _ (k : ℕ) (old new : List ℕ) (limit count : ℕ) (ys ys′ : List Rec
   -- 11
   pub writes-over : count ≡ 0 → limit ≡ limitOf (length ys) → (r : Answer) (plan : List ℕ)
       → answerOf r ≡ refusing 11 0 0
-      → Writes (connected k σ τ (limitOf (length ys)) (length plan)) r plan plan
+      → Writes (connectedFrom k old new (length ys) (length plan)) r plan plan
   unfolding connected found refused plain refusing
   writes-over none l r plan a =
       subst (λ (limit : ℕ). Writes (connected k σ τ limit (length plan)) r plan plan) l (go (search .todo) refl)
@@ -135,29 +132,16 @@ module _ (k : ℕ) (old new : List ℕ) (limit count : ℕ) (ys ys′ : List Rec
       is-total : length (search .done) ≡ total
       is-total = counted-all ∙ sym total-is
 
-      -- what the rounds ask of the records
-      pub work-table : WorkTable old new (keysOf ys′) (linksOf ys′) (length ys′) total × (0 < total) × Fresh total ys′ × Filled total (linksOf ys′) (presentOf ys′)
-      work-table =
-          let few : total ≤ limit = omega (arith, is-total, search-few same codes (next (alike k) σ τ) limit start) in
-          let room = limit-few limit (length ys) limit-is in
-          let there : total ≤ length ys′ = omega (arith, room .1, explored .size) in (
-            record {
-              old-sheet = old-sheet;
-              new-sheet = new-sheet;
-              few = omega (arith, room .0);
-              keys-room = omega (arith, keys-length ys′);
-              marks-room = there;
-              links-within = subst (λ (n : ℕ). LinksWithin n (linksOf ys′)) is-total (explored .links-within whole);
-              keys-within = subst (λ (n : ℕ). KeysWithin σ τ n (keysOf ys′)) is-total (explored .keys-within whole);
-            },
-            omega (arith, is-total, some-found whole),
-            subst (λ (n : ℕ). Fresh n ys′) is-total (explored .fresh whole),
-            subst (λ (n : ℕ). Filled n (linksOf ys′) (presentOf ys′)) is-total (explored .masks whole),
-          )
+      -- what the rounds ask of the records, and that there are some
+      pub searched-table : SearchedTable old new total ys′
+      searched-table = subst (λ (n : ℕ). SearchedTable old new n ys′) is-total (explored .searched whole)
+
+      pub some-total : 0 < total
+      some-total = omega (arith, is-total, some-found whole)
 
       -- what follows
-      pub writes-whole : (r : Answer) (plan plan′ : List ℕ) → Writes (relatedIn k σ τ (keysOf ys′) (linksOf ys′) total (length plan)) r plan plan′
-          → Writes (connected k σ τ (limitOf (length ys)) (length plan)) r plan plan′
+      pub writes-whole : (r : Answer) (plan plan′ : List ℕ) → Writes (relatedFrom k old new total ys′ (length plan)) r plan plan′
+          → Writes (connectedFrom k old new (length ys) (length plan)) r plan plan′
       unfolding connected found
       writes-whole r plan plan′ w =
           let over-found : relatedIn k σ τ (keysOf ys′) (linksOf ys′) total (length plan) ≡ related k σ τ (length plan) (search .done) =

@@ -20,7 +20,7 @@ use Rattle.pair.specs.declared.Pair.the-variants as P
 use Rattle.pair.proofs.Pairs.{refused-both, good-both, both-sheets}
 use Rattle.table.specs.declared.Record.{Record}
 use Rattle.table.specs.Records.{blank, cleared}
-use Rattle.connect.specs.Answers.{answerOf, refusing, Writes, Checked}
+use Rattle.connect.specs.Answers.{answerOf, refusing, Writes, Admits}
 use Rattle.connect.specs.declared.Answer.{Answer}
 
 number-is : (r : Answer) (a : model.Answer) → answerOf r ≡ a → r .number ≡ a .number
@@ -35,26 +35,30 @@ not-cleared number l h = rw (ne-eqb number 0 (λ e. omega arith), le-ltb 10 numb
 
 module _ (old new : List ℕ) (k : ℕ) (pair : Pair) (is-pair : pair ≡ pairOf (readBoth 0 0 old new)) (r : Answer) where
   pub pair-checked : (number sheet state offset : ℕ) → pair ≡ P.Refused number sheet state offset
-      → answerOf r ≡ refusing number sheet state → Checked k old new r
+      → answerOf r ≡ refusing number sheet state → Admits k old new r
   unfolding outcomeOf ranked refused refusing
   pair-checked number sheet state offset is-refused a =
       let read = refused-both 0 0 old new number sheet state offset pair is-pair is-refused in
       let e : r .number ≡ number = number-is r _ a in
       let n = only-elim _ (readBoth 0 0 old new) _ (both-numbers 0 0 old new) read in
       record {
-        sheets = λ z. absurd (omega (arith, n .0));
+        old-sheet = λ z. absurd (omega (arith, n .0));
+        new-sheet = λ z. absurd (omega (arith, n .0));
+        rank = λ z. absurd (omega (arith, n .0));
         good = λ z. absurd (omega (arith, n .0));
         bad = λ _ records room. ap (ranked k records room) read ∙ ap (λ (a : model.Answer). record { answer = a; bytes = [] }) (sym a);
         uncleared = λ _. not-cleared (r .number) (omega (arith, n .0)) (omega (arith, n .1));
       }
 
   module _ (is-good : pair ≡ P.Good) where
-    pub rank-checked : 3 < k → answerOf r ≡ refusing 10 0 0 → Checked k old new r
+    pub rank-checked : 3 < k → answerOf r ≡ refusing 10 0 0 → Admits k old new r
     unfolding outcomeOf ranked refused plain refusing
     rank-checked high a =
         let e : r .number ≡ 10 = number-is r _ a in
         record {
-          sheets = λ z. absurd (omega arith);
+          old-sheet = λ z. absurd (omega arith);
+          new-sheet = λ z. absurd (omega arith);
+          rank = λ z. absurd (omega arith);
           good = λ z. absurd (omega arith);
           bad =
               λ _ records room.
@@ -63,14 +67,16 @@ module _ (old new : List ℕ) (k : ℕ) (pair : Pair) (is-pair : pair ≡ pairOf
           uncleared = λ _. not-cleared (r .number) (omega arith) (omega arith);
         }
 
-    pub good-checked : k ≤ 3 → answerOf r ≡ refusing 0 0 0 → Checked k old new r
+    pub good-checked : k ≤ 3 → answerOf r ≡ refusing 0 0 0 → Admits k old new r
     unfolding outcomeOf ranked refused refusing
     good-checked low a =
         let e : r .number ≡ 0 = number-is r _ a in
         let read = good-both 0 0 old new pair is-pair is-good in
         let sheets = both-sheets 0 0 old new _ read in
         record {
-          sheets = λ _. (sheets .0, sheets .1, low);
+          old-sheet = λ _. sheets .0;
+          new-sheet = λ _. sheets .1;
+          rank = λ _. low;
           good = λ _ records room. ap (ranked k records room) read ∙ rw (le-leb k 3 low) refl;
           bad = λ n. absurd (n e);
           uncleared = λ n. absurd (n e);
@@ -110,7 +116,7 @@ module _ (k : ℕ) (old new : List ℕ) (work : List Record) (plan : List ℕ) w
   is-whole = refl
 
   -- refused before situations are counted: nothing changes
-  pub connect-refused : {r : Answer} → Checked k old new r → (r .number ≡ 0 → ⊥)
+  pub connect-refused : {r : Answer} → Admits k old new r → (r .number ≡ 0 → ⊥)
       → record { answer = answerOf r; plan = plan; work = work } ≡ connectOf blank k old new work plan
   unfolding answerOf
   connect-refused {r} c n =
@@ -119,7 +125,7 @@ module _ (k : ℕ) (old new : List ℕ) (work : List Record) (plan : List ℕ) w
       ∙ ap whole (sym (c .bad n (length work) (length plan))) ∙ is-whole
 
   -- or what follows, and all records cleared
-  pub connect-done : {first r : Answer} {plan′ : List ℕ} {work′ : List Record} (between : List Record) → Checked k old new first → first .number ≡ 0
+  pub connect-done : {first r : Answer} {plan′ : List ℕ} {work′ : List Record} (between : List Record) → Admits k old new first → first .number ≡ 0
       → Writes (connected k (contractIn old) (contractIn new) (limitOf (length work)) (length plan)) r plan plan′ → length between ≡ length work
       → work′ ≡ cleared between
       → record { answer = answerOf r; plan = plan′; work = work′ } ≡ connectOf blank k old new work plan

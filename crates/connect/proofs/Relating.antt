@@ -17,7 +17,7 @@ use Rattle.model.specs.Plan.{planRows}
 use Rattle.model.specs.Sheet.{contractIn}
 use Rattle.model.specs.Connect.{Outcome, counted, emitted}
 use Rattle.keys.specs.Links.{linked, nextIn, unmarked, LinksWithin}
-use Rattle.keys.specs.Masks.{MasksLeft}
+use Rattle.rounds.specs.Masks.{MasksLeft}
 use Rattle.sheet.specs.Whole.{IsSheet}
 use Rattle.table.specs.declared.Record.{Record}
 use Rattle.table.specs.Records.{blank}

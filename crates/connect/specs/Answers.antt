@@ -33,6 +33,10 @@ unfoldable pub counting : (number situations states rounds length : ℕ) → mod
 counting number situations states rounds length =
     record { number = number; sheet = 0; state = 0; situations = situations; states = states; rounds = rounds; length = length }
 
+-- what follows for two sheets that are admitted, with so many records and so much room lent
+abbrev pub connectedFrom : (k : ℕ) (old new : List ℕ) (records room : ℕ) → Outcome
+connectedFrom k old new records room = connected k (contractIn old) (contractIn new) (limitOf records) room
+
 -- an outcome is answered, and its bytes stand in front of the lent plan
 pub record Writes (o : Outcome) (r : Answer) (plan plan′ : List ℕ) : Type 0 where
   pub answer : answerOf r ≡ o .answer
@@ -40,8 +44,10 @@ pub record Writes (o : Outcome) (r : Answer) (plan plan′ : List ℕ) : Type 0 
 
 -- What the check of the sheets, of the pair and of k answers: the number 0, and what follows is the outcome; or a refusal, which is the
 -- outcome already and leaves the records as they were.
-pub record Checked (k : ℕ) (old new : List ℕ) (r : Answer) : Type 0 where
-  pub sheets : r .number ≡ 0 → IsSheet old × IsSheet new × (k ≤ 3)
-  pub good : r .number ≡ 0 → (records room : ℕ) → outcomeOf records room k old new ≡ connected k (contractIn old) (contractIn new) (limitOf records) room
+pub record Admits (k : ℕ) (old new : List ℕ) (r : Answer) : Type 0 where
+  pub old-sheet : r .number ≡ 0 → IsSheet old
+  pub new-sheet : r .number ≡ 0 → IsSheet new
+  pub rank : r .number ≡ 0 → k ≤ 3
+  pub good : r .number ≡ 0 → (records room : ℕ) → outcomeOf records room k old new ≡ connectedFrom k old new records room
   pub bad : (r .number ≡ 0 → ⊥) → (records room : ℕ) → outcomeOf records room k old new ≡ record { answer = answerOf r; bytes = [] }
   pub uncleared : (r .number ≡ 0 → ⊥) → clears (r .number) ≡ false

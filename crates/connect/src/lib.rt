@@ -4,18 +4,13 @@ ghost use mathlib.Core.Path.{_≡_};
 ghost use Prim.Native.Nat.{_≤_, _<_};
 ghost use lib.ListN.{length};
 ghost use lib.Dec.{leb};
-ghost use Rattle.model.specs.Sheet.{contractIn};
-ghost use Rattle.model.specs.Connect.{emitted, connected, limitOf, connectOf};
+ghost use Rattle.model.specs.Connect.{limitOf, connectOf};
 ghost use Rattle.sheet.specs.Whole.{IsSheet};
-ghost use Rattle.keys.specs.Masks.{Filled};
 ghost use Rattle.table.specs.Records.{blank};
-ghost use Rattle.table.specs.Lists.{keysOf, linksOf, marksOf, presentOf};
-ghost use Rattle.table.specs.Fresh.{Fresh};
-ghost use Rattle.rounds.specs.Settled.{WorkTable};
-ghost use Rattle.numbering.specs.Kept.{WorkLists, Shown, rowsIn};
+ghost use Rattle.table.specs.States.{SearchedTable, SettledTable};
 ghost use Rattle.numbering.specs.Work.{Unnumbered};
-ghost use Rattle.connect.specs.Answers.{answerOf, refusing, counting, Writes, Checked};
-ghost use Rattle.connect.specs.Related.{relatedIn};
+ghost use Rattle.connect.specs.Answers.{answerOf, refusing, counting, connectedFrom, Writes, Admits};
+ghost use Rattle.connect.specs.Related.{relatedFrom, emittedFrom};
 use pair::Pair;
 
 // What connecting answers: number, sheet and state of a refusal; situations, plan states and rounds; the plan's length.
@@ -65,10 +60,10 @@ fn with_counts(number: u8, situations: usize, states: u16, rounds: u16, length: 
 fn limit_of(records: usize) -> usize
     ensures { λ r. ⌜ r ≡ limitOf records ⌝ }
 {
-    if records < 4096 {
+    if records < keys::MOST {
         return records;
     }
-    4096
+    keys::MOST
 }
 
 // A number of situations as a place in the table.
@@ -87,7 +82,7 @@ fn fits(length: u32, room: usize) -> bool
 
 // The refusal of the sheets, of the pair or of k, if there is one; else an answer with the number 0.
 fn checked(k: u8, old: &[u8], new: &[u8]) -> Answer
-    ensures { λ r. ⌜ Checked k (now (old .entry)) (now (new .entry)) r ⌝ }
+    ensures admits { λ r. ⌜ Admits k (now (old .entry)) (now (new .entry)) r ⌝ }
 {
     match pair::check_pair(0, 0, old, new) {
         Pair::Refused(number, sheet, state, offset) => refusal(number, sheet, state),
@@ -110,8 +105,13 @@ fn emit(
     count: usize,
     rounds: u16,
 ) -> Answer
-    requires { ⌜ IsSheet (now old) × WorkLists count (linksOf (now work)) (marksOf (now work)) × Shown count (linksOf (now work)) (marksOf (now work)) (presentOf (now work)) × Unnumbered count (now work) ⌝ }
-    ensures { λ r. ⌜ Writes (emitted (contractIn (now (old .entry)) .n) k (length (now (plan .entry))) count rounds (rowsIn (linksOf (now (work .entry))) (marksOf (now (work .entry))) count)) r (now (plan .entry)) (now (plan .exit)) ⌝ }
+    requires old_sheet { ⌜ IsSheet (now old) ⌝ }
+    requires settled { ⌜ SettledTable count (now work) ⌝ }
+    requires unnumbered { ⌜ Unnumbered count (now work) ⌝ }
+    ensures written {
+        λ r. ⌜ Writes (emittedFrom k (now (old .entry)) count rounds (now (work .entry)) (length (now (plan .entry)))) r
+            (now (plan .entry)) (now (plan .exit)) ⌝
+    }
 {
     let states = numbering::number_states(work, count);
     let length = numbering::plan_length(work, count, states);
@@ -132,8 +132,12 @@ fn relate(
     plan: &mut [u8],
     count: usize,
 ) -> Answer
-    requires { ⌜ WorkTable (now old) (now new) (keysOf (now work)) (linksOf (now work)) (length (now work)) count × (0 < count) × Fresh count (now work) × Filled count (linksOf (now work)) (presentOf (now work)) ⌝ }
-    ensures { λ r. ⌜ Writes (relatedIn k (contractIn (now (old .entry))) (contractIn (now (new .entry))) (keysOf (now (work .entry))) (linksOf (now (work .entry))) count (length (now (plan .entry)))) r (now (plan .entry)) (now (plan .exit)) ⌝ }
+    requires searched { ⌜ SearchedTable (now old) (now new) count (now work) ⌝ }
+    requires some { ⌜ 0 < count ⌝ }
+    ensures written {
+        λ r. ⌜ Writes (relatedFrom k (now (old .entry)) (now (new .entry)) count (now (work .entry)) (length (now (plan .entry)))) r
+            (now (plan .entry)) (now (plan .exit)) ⌝
+    }
 {
     let rounds = rounds::settle(old, new, work, count);
     let begin = table::load(work, 0);
@@ -151,8 +155,13 @@ fn connect_checked(
     work: &mut [table::Record],
     plan: &mut [u8],
 ) -> Answer
-    requires { ⌜ IsSheet (now old) × IsSheet (now new) × (k ≤ 3) ⌝ }
-    ensures { λ r. ⌜ Writes (connected k (contractIn (now (old .entry))) (contractIn (now (new .entry))) (limitOf (length (now (work .entry)))) (length (now (plan .entry)))) r (now (plan .entry)) (now (plan .exit)) ⌝ }
+    requires old_sheet { ⌜ IsSheet (now old) ⌝ }
+    requires new_sheet { ⌜ IsSheet (now new) ⌝ }
+    requires rank { ⌜ k ≤ 3 ⌝ }
+    ensures written {
+        λ r. ⌜ Writes (connectedFrom k (now (old .entry)) (now (new .entry)) (length (now (work .entry))) (length (now (plan .entry)))) r
+            (now (plan .entry)) (now (plan .exit)) ⌝
+    }
 {
     let limit = limit_of(work.len());
     let count = reached::explore(old, new, k, limit, work);
@@ -164,7 +173,10 @@ fn connect_checked(
 
 // Connects the contracts of two sheets with buffers of rank k.
 pub fn connect(k: u8, old: &[u8], new: &[u8], work: &mut [table::Record], plan: &mut [u8]) -> Answer
-    ensures { λ r. ⌜ record { answer = answerOf r; plan = now (plan .exit); work = now (work .exit) } ≡ connectOf blank k (now (old .entry)) (now (new .entry)) (now (work .entry)) (now (plan .entry)) ⌝ }
+    ensures outcome {
+        λ r. ⌜ record { answer = answerOf r; plan = now (plan .exit); work = now (work .exit) }
+            ≡ connectOf blank k (now (old .entry)) (now (new .entry)) (now (work .entry)) (now (plan .entry)) ⌝
+    }
 {
     let first = checked(k, old, new);
     if first.number != 0 {
