@@ -33,7 +33,8 @@ def written():
 
 WORDS = written()
 # crates that others build on and that are not ours
-TOOLCHAIN = {name for name in re.findall(r'\w+', Path('crates.txt').read_text()) if not Path('crates', name).exists()}
+LISTED = re.sub('#.*', '', Path('crates.txt').read_text())
+TOOLCHAIN = {name for name in re.findall(r'\w+', LISTED) if not Path('crates', name).exists()}
 
 
 def names(text):
