@@ -1,15 +1,15 @@
 """Are the names in the documents there? `python3 -m tests.documents`, from the repository's root.
 
-README.md and docs/ name files, functions, definitions, theorems, must-fail edits and groups of test cases. Each must exist where the text
-says, and an edit is called one of a contract exactly if it is. Prints a line for each that does not, then how many names of each sort were
-looked up; the status is 1 if one is missing, or if a sort has none, which would mean that the documents are not written as this program
-reads them."""
+README.md, docs/ and tests/README.md name files, functions, definitions, theorems, must-fail edits and groups of test cases. Each must exist
+where the text says, and an edit is called one of a contract exactly if it is. Prints a line for each that does not, then how many names of
+each sort were looked up; the status is 1 if one is missing, or if a sort has none, which would mean that the documents are not written as
+this program reads them."""
 import re
 import sys
 from collections import Counter
 from pathlib import Path
 
-DOCUMENTS = [Path('README.md'), *sorted(Path('docs').glob('*.md'))]
+DOCUMENTS = [Path('README.md'), *sorted(Path('docs').glob('*.md')), Path('tests/README.md')]
 # words that stand for any name
 ANY = re.compile(r'\b(?:NAME|FUNCTION|File|crate/name|crates/crate)\b')
 
