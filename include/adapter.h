@@ -1,23 +1,24 @@
 /*
  * Connecting two service contracts, stepping a plan, checking a client against a service: the proved library for C and C++.
  *
- * `rt staticlib adapter` proves the library and writes it to target/staticlib/libadapter.a, for x86-64 Linux. It needs nothing else but memcpy and
- * memset of the C library. examples/c is a program that uses it. The rules, sheets and plans are those of document 01; the words in quotation
- * marks below are taken from it.
+ * `rt staticlib adapter` proves the library and writes it to target/staticlib/libadapter.a, for x86-64 Linux. It needs nothing else but
+ * memcpy and memset of the C library. examples/c is a program that uses it. The rules, sheets and plans are those of document 01; the words
+ * in quotation marks below are taken from it. docs/FORMATS.md explains sheets and plans byte by byte, docs/GLOSSARY.md the words.
  *
  * What the caller promises. The proof begins here: of a call that breaks one of these, nothing is said.
  *   - Each pointer leads to as many elements as the length behind it says, in one object, all of them initialised; any values will do. A
  *     length counts elements: records for the work table, bytes for all else. With length 0 the pointer may be null.
- *   - The work table is aligned as an array of struct adapter_situation is, to 4 bytes. Bytes may stand anywhere.
+ *   - The work table is aligned as an array of struct adapter_record is, to 4 bytes. Bytes may stand anywhere.
  *   - The work table and the lent plan overlap nothing else that is passed. What is only read may overlap: one sheet may be passed twice.
  *   - While a call runs, nothing else writes to what is passed, or reads the work table or the lent plan.
  *
  * What it gets for that. Bytes of all kinds and lengths are answered, by a result or a refusal; every call ends; no call reads or writes
  * anything but what is passed.
  *   - All memory is the caller's, before and after. No pointer is kept when a call returns.
- *   - Nothing is allocated, and there is no global state. Calls on distinct buffers are re-entrant, and may run at the same time; what is only
- *     read may be shared between them.
- *   - There is no recursion. Of the stack, adapter_complies uses some 13 KiB and the others less than 2 KiB; that is measured and not proved.
+ *   - Nothing is allocated, and there is no global state. Calls on distinct buffers are re-entrant, and may run at the same time; what is
+ *     only read may be shared between them.
+ *   - There is no recursion. Of the stack, adapter_complies uses some 13 KiB and the others less than 2 KiB; that is measured and not
+ *     proved.
  */
 #ifndef ADAPTER_H
 #define ADAPTER_H
@@ -35,10 +36,14 @@ extern "C" {
 /* The most situations of a pair, and the most states of a plan. More records than these are never used. */
 #define ADAPTER_MOST_SITUATIONS 4096
 
-/* The bytes of the longest plan: so many states with 42 moves of 3 bytes each. With this much lent, no plan is refused as ADAPTER_ROOM. */
+/* The bytes of the longest plan: so many states with 42 moves of 3 bytes each. With this much lent, none is refused as ADAPTER_ROOM. */
 #define ADAPTER_LONGEST_PLAN 536584
 
-/* The number of an answer: 0, or what is wrong. The comments are document 01's, "Given when". */
+/*
+ * The number of an answer: 0, or what is wrong. The comments are document 01's, "Given when". 12 is proved to mean that no relation of
+ * definition 3.7 of Padovani 2010 holds the start with this k. That no plan whatever would do then is that paper's theorem 3.8, which is
+ * not proved here.
+ */
 enum adapter_refusal {
     ADAPTER_ACCEPTED = 0,
     ADAPTER_LENGTH = 1,      /* sheet below 6 or above 2,118 bytes */
@@ -52,7 +57,7 @@ enum adapter_refusal {
     ADAPTER_NAMES = 9,       /* the two sheets differ in n */
     ADAPTER_RANK = 10,       /* k above 3 */
     ADAPTER_CAPACITY = 11,   /* reached situations exceed the lent records or 4,096 */
-    ADAPTER_NO_ADAPTER = 12, /* the start is removed: there is no adapter for this k */
+    ADAPTER_NO_ADAPTER = 12, /* the start is removed: no weak k-subcontract relation holds it */
     ADAPTER_ROOM = 13,       /* the plan is longer than the lent plan */
     ADAPTER_PLAN = 14,       /* a stepped plan breaks the plan layout */
     ADAPTER_STATE = 15,      /* not a state of the plan */
@@ -60,10 +65,10 @@ enum adapter_refusal {
 };
 
 /*
- * A record of the work table: 208 bytes, aligned to 4. What stands in it is the library's own and may change; a caller makes room for records
- * and looks at none. It holds a situation and all that the library keeps of it.
+ * A record of the work table: 208 bytes, aligned to 4. What stands in it is the library's own and may change; a caller makes room for
+ * records and looks at none. It holds a situation and all that the library keeps of it.
  */
-struct adapter_situation {
+struct adapter_record {
     uint32_t room[52];
 };
 
@@ -95,8 +100,10 @@ struct adapter_complies_answer {
 /*
  * Connects two service sheets, with up to k messages of each name and direction kept (k is 0 to 3), and writes the plan.
  *
- * The work table needs no values of its own before a call; calloc, or a static array, is enough to start with. It is the memory of the call:
- * a record for each situation that the pair reaches. After the call:
+ * The work table is the memory of the call: a record for each situation that the pair reaches. It has to be initialised before the call,
+ * with anything: the answer is the same whatever it holds, but the library reads records before it writes them, and a memory checker
+ * reports such reads of memory that never got a value. Memory from calloc, a static array or the table of an earlier call will do; memory
+ * from malloc has to be filled first. After the call:
  *
  *   number       the work table                  the lent plan
  *   1 to 10      unchanged                       unchanged
@@ -106,7 +113,7 @@ struct adapter_complies_answer {
  * Each record means all that were lent, also those never used.
  */
 struct adapter_answer adapter_connect(uint8_t k, const uint8_t *old_sheet, size_t old_len, const uint8_t *new_sheet, size_t new_len,
-                                      struct adapter_situation *work, size_t work_len, uint8_t *plan, size_t plan_len);
+                                      struct adapter_record *work, size_t work_len, uint8_t *plan, size_t plan_len);
 
 /*
  * The state that a plan goes to from a state by a code: "the next state, or 0 with a refusal". The start is state 0. A plan ends where its
@@ -123,7 +130,7 @@ struct adapter_complies_answer adapter_complies(const uint8_t *client, size_t cl
 #define ADAPTER_ASSERT _Static_assert
 #endif
 #ifdef ADAPTER_ASSERT
-ADAPTER_ASSERT(sizeof(struct adapter_situation) == 208, "a record has 208 bytes");
+ADAPTER_ASSERT(sizeof(struct adapter_record) == 208, "a record has 208 bytes");
 ADAPTER_ASSERT(sizeof(struct adapter_answer) == 16, "the answer of connecting has 16 bytes");
 ADAPTER_ASSERT(sizeof(struct adapter_step_answer) == 4, "the answer of stepping has 4 bytes");
 ADAPTER_ASSERT(sizeof(struct adapter_complies_answer) == 4, "the answer of the client check has 4 bytes");

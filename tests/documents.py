@@ -1,22 +1,23 @@
 """Are the names in the documents there? `python3 -m tests.documents`, from the repository's root.
 
-README.md and docs/ name files, functions, definitions, theorems, must-fail edits and groups of test cases. Each must exist where the text
-says. Prints a line for each that does not, then how many names of each sort were looked up; the status is 1 if one is missing, or if a sort
-has none, which would mean that the documents are no longer written as this program reads them."""
+README.md, docs/ and tests/README.md name files, functions, definitions, theorems, must-fail edits and groups of test cases. Each must exist
+where the text says, and an edit is called one of a contract exactly if it is. Prints a line for each that does not, then how many names of
+each sort were looked up; the status is 1 if one is missing, or if a sort has none, which would mean that the documents are not written as
+this program reads them."""
 import re
 import sys
 from collections import Counter
 from pathlib import Path
 
-DOCUMENTS = [Path('README.md'), *sorted(Path('docs').glob('*.md'))]
+DOCUMENTS = [Path('README.md'), *sorted(Path('docs').glob('*.md')), Path('tests/README.md')]
 # words that stand for any name
 ANY = re.compile(r'\b(?:NAME|FUNCTION|File|crate/name|crates/crate)\b')
 
 NAMES = r'((?:`[^`]+`(?:, | and )?)+)'
 # `name`, `name` (File), (proofs/File), (`path`, or in `path`; and the fields that follow a colon
 PLACED = re.compile(NAMES + r'(?: \(| in )(?:(proofs/)?([A-Z]\w+)|`([\w/]+\.(?:antt|rt|h))`)(?:\)(?:: ' + NAMES + ')?)?')
-EDITS = re.compile(r'\bedits? ((?:[a-z]\w*/\w+(?:, )?)+)')
-GROUPS = re.compile(r'\b(?:sheet|pair|step|client|walk)_run ' + NAMES)
+EDITS = re.compile(r'\bedits?( of a contract| of contracts)? ((?:[a-z]\w*/\w+(?:, )?)+)')
+GROUPS = re.compile(r'\b(?:sheet|pair|step|client|run)_cases ' + NAMES)
 FUNCTION = re.compile(r'`(\w+)::(?:\w+::)*(\w+)`')
 # a name of ours by its form, with or without a field behind it: two words, or a capital letter
 WORD = re.compile(r'`([A-Za-z][\w′]*[-_A-Z][\w′-]*|[A-Z][a-z]+\w*)(?:\.(?!py|antt)([\w-]+))?`')
@@ -32,7 +33,8 @@ def written():
 
 WORDS = written()
 # crates that others build on and that are not ours
-TOOLCHAIN = {name for name in re.findall(r'\w+', Path('crates.txt').read_text()) if not Path('crates', name).exists()}
+LISTED = re.sub('#.*', '', Path('crates.txt').read_text())
+TOOLCHAIN = {name for name in re.findall(r'\w+', LISTED) if not Path('crates', name).exists()}
 
 
 def names(text):
@@ -77,10 +79,13 @@ def pieces(text):
 
 def lookups(line):
     """The names of a piece: sort, what is named, whether it is there."""
-    for edits in EDITS.findall(line):
-        for edit in edits.split(', '):
+    for called, edits in EDITS.findall(line):
+        for edit in edits.strip(', ').split(', '):
             crate, _, name = edit.partition('/')
-            yield 'edit', edit, Path('crates', crate, 'must-fail', name + '.edit').is_file()
+            text = there(Path('crates', crate, 'must-fail', name + '.edit'))
+            # one that changes what an inner function promises, and neither code nor model, is called so
+            contract = crate != 'model' and text.startswith('file: specs/')
+            yield 'edit of a contract' if called else 'edit', edit, text and contract == bool(called)
     for groups in GROUPS.findall(line):
         cases = [there(path) for path in Path('tests/reference').glob('*.py')]
         for group in names(groups):
@@ -108,7 +113,8 @@ def theorems(text):
 
 
 def main():
-    sorts, missing = Counter({sort: 0 for sort in ('edit', 'group', 'declaration', 'function', 'path', 'word', 'theorem')}), 0
+    kinds = ('edit', 'edit of a contract', 'group', 'declaration', 'function', 'path', 'word', 'theorem')
+    sorts, missing = Counter({kind: 0 for kind in kinds}), 0
     for document in DOCUMENTS:
         text = document.read_text()
         found = [(first, *one) for first, piece in pieces(text) for one in lookups(piece)]

@@ -28,7 +28,7 @@ static const uint8_t client[] = {
 };
 
 /* All the memory there is: the library has none of its own. */
-static struct adapter_situation work[16];
+static struct adapter_record work[16];
 static uint8_t plan[128];
 
 /* Prints bytes from a place on, and gives the place behind them. */

@@ -32,7 +32,7 @@ int main(void)
     NUMBER(STATE);
     NUMBER(MOVE);
 
-    STRUCT(adapter_situation);
+    STRUCT(adapter_record);
 
     STRUCT(adapter_answer);
     FIELD(adapter_answer, number);

@@ -37,7 +37,7 @@ fn declared() -> String {
     for (number, word) in WORDS.iter().enumerate() {
         lines += &format!("{word} {number}\n");
     }
-    lines += &laid_out!("adapter_situation", Record);
+    lines += &laid_out!("adapter_record", Record);
     lines += &laid_out!("adapter_answer", Answer,
         number: u8, sheet: u8, state: u8, situations: u16, states: u16, rounds: u16, length: u32);
     lines += &laid_out!("adapter_step_answer", Stepped, number: u8, state: u16);

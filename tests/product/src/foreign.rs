@@ -1,6 +1,6 @@
 //! The product's functions as C sees them.
 
-use crate::keys::Record;
+use crate::table::Record;
 use std::ptr::{null, null_mut};
 
 /// What connecting answers.

@@ -5,7 +5,7 @@ mod foreign;
 mod table;
 
 pub use foreign::{Answer, Compliance, Stepped};
-pub use keys::{Lent, Record, Table};
+pub use table::{Lent, Record, Table};
 
 use foreign::passed;
 
