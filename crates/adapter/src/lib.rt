@@ -19,10 +19,8 @@ pub extern "C" fn adapter_connect(
     work: &mut [table::Record],
     plan: &mut [u8],
 ) -> connect::Answer
-    ensures outcome {
-        λ r. ⌜ record { answer = answerOf r; plan = now (plan .exit); work = now (work .exit) }
-            ≡ connectOf blank k (now (old .entry)) (now (new .entry)) (now (work .entry)) (now (plan .entry)) ⌝
-    }
+    ensures outcome { λ r. ⌜ record { answer = answerOf r; plan = now (plan .exit); work = now (work .exit) }
+        ≡ connectOf blank k (now (old .entry)) (now (new .entry)) (now (work .entry)) (now (plan .entry)) ⌝ }
 {
     connect::connect(k, old, new, work, plan)
 }

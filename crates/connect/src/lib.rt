@@ -108,10 +108,8 @@ fn emit(
     requires old_sheet { ⌜ IsSheet (now old) ⌝ }
     requires settled { ⌜ SettledTable count (now work) ⌝ }
     requires unnumbered { ⌜ Unnumbered count (now work) ⌝ }
-    ensures written {
-        λ r. ⌜ Writes (emittedFrom k (now (old .entry)) count rounds (now (work .entry)) (length (now (plan .entry)))) r
-            (now (plan .entry)) (now (plan .exit)) ⌝
-    }
+    ensures written { λ r. ⌜ Writes (emittedFrom k (now (old .entry)) count rounds (now (work .entry)) (length (now (plan .entry)))) r
+        (now (plan .entry)) (now (plan .exit)) ⌝ }
 {
     let states = numbering::number_states(work, count);
     let length = numbering::plan_length(work, count, states);
@@ -134,10 +132,8 @@ fn relate(
 ) -> Answer
     requires searched { ⌜ SearchedTable (now old) (now new) count (now work) ⌝ }
     requires some { ⌜ 0 < count ⌝ }
-    ensures written {
-        λ r. ⌜ Writes (relatedFrom k (now (old .entry)) (now (new .entry)) count (now (work .entry)) (length (now (plan .entry)))) r
-            (now (plan .entry)) (now (plan .exit)) ⌝
-    }
+    ensures written { λ r. ⌜ Writes (relatedFrom k (now (old .entry)) (now (new .entry)) count (now (work .entry)) (length (now (plan .entry)))) r
+        (now (plan .entry)) (now (plan .exit)) ⌝ }
 {
     let rounds = rounds::settle(old, new, work, count);
     let begin = table::load(work, 0);
@@ -158,10 +154,8 @@ fn connect_checked(
     requires old_sheet { ⌜ IsSheet (now old) ⌝ }
     requires new_sheet { ⌜ IsSheet (now new) ⌝ }
     requires rank { ⌜ k ≤ 3 ⌝ }
-    ensures written {
-        λ r. ⌜ Writes (connectedFrom k (now (old .entry)) (now (new .entry)) (length (now (work .entry))) (length (now (plan .entry)))) r
-            (now (plan .entry)) (now (plan .exit)) ⌝
-    }
+    ensures written { λ r. ⌜ Writes (connectedFrom k (now (old .entry)) (now (new .entry)) (length (now (work .entry))) (length (now (plan .entry)))) r
+        (now (plan .entry)) (now (plan .exit)) ⌝ }
 {
     let limit = limit_of(work.len());
     let count = reached::explore(old, new, k, limit, work);
@@ -173,10 +167,8 @@ fn connect_checked(
 
 // Connects the contracts of two sheets with buffers of rank k.
 pub fn connect(k: u8, old: &[u8], new: &[u8], work: &mut [table::Record], plan: &mut [u8]) -> Answer
-    ensures outcome {
-        λ r. ⌜ record { answer = answerOf r; plan = now (plan .exit); work = now (work .exit) }
-            ≡ connectOf blank k (now (old .entry)) (now (new .entry)) (now (work .entry)) (now (plan .entry)) ⌝
-    }
+    ensures outcome { λ r. ⌜ record { answer = answerOf r; plan = now (plan .exit); work = now (work .exit) }
+        ≡ connectOf blank k (now (old .entry)) (now (new .entry)) (now (work .entry)) (now (plan .entry)) ⌝ }
 {
     let first = checked(k, old, new);
     if first.number != 0 {
