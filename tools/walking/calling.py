@@ -15,7 +15,9 @@ class Calling:
         g = Signature(crate, name)
         self.callees[g.key()] = g
         self.values.append(g.result)
-        _, keys, _ = self.page.take('call', name.split('::')[-1])
+        unit = g.result.name == '()'
+        muts = [p for p in g.refs if p.mut]
+        page = self.page.take('call', name.split('::')[-1], *[p.name for p in muts], 'fact', *(['needs'] if g.needs else []), *([] if unit else ['result']))
         n = self.fresh()
         st.calls += 1
         args = items(s[2])
@@ -68,16 +70,14 @@ class Calling:
                 if p.value.name != 'bool':
                     proofs.append(par(what.proof))
         if g.needs:
-            proofs.append(par(keys['needs']))
+            proofs += map(par, page.each('needs', g.needs))
         operands = ''.join(f'and-then ! ({t}) (' for t in ops) + 'no-more !' + ')' * len(ops)
-        unit = g.result.name == '()'
-        res = keys.get('result', f'r{n}')
-        fact = keys.get('fact', f'said{n}')
-        muts = [p for p in g.refs if p.mut]
-        new = {p.name: keys.get(p.name, f'{p.plain}{n}') for p in muts}
+        res = page.one('result', f'r{n}')
+        facts = page.each('fact', g.gives, f'said{n}')
+        new = {p.name: page.one(p.name, f'{p.plain}{n}') for p in muts}
         names = ([] if unit else [res]) + list(new.values())
         evidence = f'{g.result.label()}-{res}'
-        hyps = ([] if unit or g.result.name == 'bool' else [evidence]) + [f'same-{new[p.name]}' for p in muts] + [fact]
+        hyps = ([] if unit or g.result.name == 'bool' else [evidence]) + [f'same-{new[p.name]}' for p in muts] + facts
         if not unit:
             st.bound.append((res, g.result.denot))
         for p in muts:
@@ -86,7 +86,7 @@ class Calling:
             st.bound.append((evidence, g.result.evidence(res)))
         for p in muts:
             st.bound.append((f'same-{new[p.name]}', f'length {new[p.name]} ≡ length {entry[p.name]}'))
-        st.bound.append((fact, g.said(g.gives, entry, new, values, res)))
+        st.bound += [(fact, g.said(c, entry, new, values, res)) for fact, c in zip(facts, g.gives)]
         if len(set(names + hyps)) != len(names + hyps):
             sys.exit(f'walk: a name stands twice among {" ".join(names + hyps)}')
         self.bound_names |= set(names + hyps)

@@ -1,6 +1,7 @@
 """The functions of a crate with their contracts, as its src has them, and the types of their values."""
 import re
 import sys
+from collections import namedtuple
 from pathlib import Path
 
 from walking.names import taken
@@ -16,20 +17,18 @@ def joined(ws):
 
 
 CLAUSE = re.compile(r'\s*(requires|ensures)(?: (\w+))? \{\s*(?:λ (\S+?)\. )?⌜ (.*?) ⌝\s*\}', re.S)
+# of `requires` or `ensures`; its name, if it has one; the result's name in it; what it says
+Clause = namedtuple('Clause', 'kind name bound fact')
 
 
 def clauses(text):
-    """The clauses that a text begins with: those of `requires`, name and fact, and those of `ensures`, name, result's name and fact."""
-    needs, gives, at = [], [], 0
+    """The clauses that a text begins with: those of `requires` and those of `ensures`."""
+    found, at = [], 0
     while m := CLAUSE.match(text, at):
         kind, name, bound, fact = m.groups()
-        fact = ' '.join(fact.split())
-        if kind == 'requires':
-            needs.append((name, fact))
-        else:
-            gives.append((name, bound, fact))
+        found.append(Clause(kind, name, bound, ' '.join(fact.split())))
         at = m.end()
-    return needs, gives
+    return [c for c in found if c.kind == 'requires'], [c for c in found if c.kind == 'ensures']
 
 
 class Source:
@@ -187,12 +186,16 @@ class Signature:
         self.crate, self.name = crate, name
         self.params = [Param(crate, n, t) for n, t in params]
         self.result = Value(crate, result)
-        if len(needs) > 1 or len(gives) != 1:
-            sys.exit(f'walk: {name} has {len(needs)} clauses `requires` and {len(gives)} `ensures`')
-        needed, self.needs = needs[0] if needs else (None, None)
-        self.needed = (needed or 'needed').replace('_', '-')
-        _, self.bound, self.gives = gives[0]
         self.refs = [p for p in self.params if p.slice]
+        if not gives:
+            sys.exit(f'walk: {name} has no clause `ensures`')
+        self.needs, self.gives = self.named(needs), self.named(gives)
+
+    def named(self, clauses):
+        """Clauses with their names as a walk has them; one alone needs none."""
+        if len(clauses) > 1 and not all(c.name for c in clauses):
+            sys.exit(f'walk: {self.name} has several clauses `{clauses[0].kind}`: each needs a name')
+        return [c._replace(name=c.name and c.name.replace('_', '-')) for c in clauses]
 
     def index(self, p):
         return self.params.index(p)
@@ -205,7 +208,7 @@ class Signature:
         return self.name.split('::')[-1].replace('_', '-')
 
     def key(self):
-        return f'#{self.crate}·' + '·'.join(x.replace('_', '-') for x in self.name.split('::'))
+        return '#' + '·'.join(x.replace('_', '-') for x in [self.crate] + self.name.split('::'))
 
     def module(self, crate):
         path = self.name.replace('::', '.')
@@ -222,7 +225,7 @@ class Signature:
 
     def said(self, clause, entry, end, values, result=None):
         """A clause with its words for parameters and result replaced."""
-        ws, out, i = words_of(clause), [], 0
+        ws, out, i = words_of(clause.fact), [], 0
         lists = {p.name: p for p in self.refs}
         while i < len(ws):
             if ws[i] == 'now' and ws[i + 1] == '(' and ws[i + 3] in ('.entry', '.exit'):
@@ -235,7 +238,7 @@ class Signature:
             elif ws[i] in values and ws[i + 1:i + 2] != ['=']:
                 out.append(values[ws[i]])
                 i += 1
-            elif ws[i] == self.bound and result is not None:
+            elif ws[i] == clause.bound and result is not None:
                 out.append(result)
                 i += 1
             else:

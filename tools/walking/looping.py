@@ -51,16 +51,15 @@ class Looping:
         return live
 
     def loop(self, stmts, i, st):
-        _, keys, more = self.page.take('loop')
+        page = self.page.take('loop', '', 'var', 'slice', 'inv', 'measure', 'begin')
         turn = statements(stmts[i][1][1])
         self.has_loop, self.after_loop = True, i + 1
         live = self.live_at_head(turn, self.live(self.body[i + 1:], set()))
-        named = {m[1]: m[2] for m in more if m[0] == 'var'}
-        lists = {m[1]: m[2] for m in more if m[0] == 'slice'}
+        named, lists = (dict(text.split() for text in page.all(key)) for key in ('var', 'slice'))
         text = ''.join(self.forget(st, k) for k in range(len(self.locals)) if st.cells[k] is not None and k not in live)
         loop = {'live': live, 'vars': [(int(k), n, st.cells[int(k)].value) for k, n in named.items()], 'slices': [(p, lists[p.plain]) for p in st.refs if p.plain in lists]}
         start = [st.cells[k].term for k, _, _ in loop['vars']] + [st.lists[p.name][0] for p, _ in loop['slices']]
-        start += [st.cells[k].proof for k, _, v in loop['vars'] if v.name != 'bool'] + [st.lists[p.name][1] for p, _ in loop['slices']] + [keys['begin']]
+        start += [st.cells[k].proof for k, _, v in loop['vars'] if v.name != 'bool'] + [st.lists[p.name][1] for p, _ in loop['slices']] + [page.one('begin')]
         outer = list(st.bound)
         # at the head
         inside = st.copy()
@@ -71,7 +70,7 @@ class Looping:
         for p, n in loop['slices']:
             inside.lists[p.name] = (n, f'long-{n}')
             binders.append((n, f'List {par(p.value.denot)}'))
-        facts = [(f'{v.label()}-{n}', v.evidence(n)) for k, n, v in loop['vars'] if v.name != 'bool'] + [(f'long-{n}', f'length {n} ≡ {p.count}') for p, n in loop['slices']] + [('known', keys['inv'])]
+        facts = [(f'{v.label()}-{n}', v.evidence(n)) for k, n, v in loop['vars'] if v.name != 'bool'] + [(f'long-{n}', f'length {n} ≡ {p.count}') for p, n in loop['slices']] + [('known', page.one('inv'))]
         loop['here'] = tupled([n for n, _ in binders + facts])
         self.bound_names |= {n for n, _ in binders + facts}
         inside.bound += binders + facts
@@ -91,7 +90,7 @@ abbrev State : Type 0
 State = {state}
 
 abbrev measure : {kinds} → ℕ
-measure {args} = {keys['measure']}
+measure {args} = {page.one('measure')}
 
 abbrev Nearer : State → State → Type 0
 Nearer s t = {measured[1:-1].replace('λ (t : State). ', '').replace('(t', '(s')} < {measured[1:-1].replace('λ (t : State). ', '')}

@@ -4,7 +4,7 @@ from pathlib import Path
 
 # the crate whose proofs/ has what walks share, and its files
 HOME = 'walks'
-SHARED = ('Logic', 'Branches', 'Freed', 'Lent', 'Rest', 'Front', 'LocalTable', 'Elements', 'Places')
+SHARED = ('Logic', 'Branches', 'Freed', 'Lent', 'Rest', 'Front', 'LocalTable', 'Elements', 'Places', 'Clauses')
 # the crate of the records
 TABLE = 'table'
 

@@ -2,33 +2,74 @@
 import sys
 
 
+class Entry:
+    """An entry: its first word, the text behind it, and its lines, a key and a text each."""
+
+    def __init__(self, head, text):
+        self.head, self.text, self.lines = head, text, []
+
+    def __str__(self):
+        return f'{self.head} {self.text}'.strip()
+
+    def all(self, key):
+        return [text for k, text in self.lines if k == key]
+
+    def one(self, key, default=None):
+        found = self.all(key)
+        if len(found) > 1:
+            sys.exit(f'walk: the page\'s entry "{self}" has "{key}" more than once')
+        if not found and default is None:
+            sys.exit(f'walk: the page\'s entry "{self}" lacks "{key}"')
+        return found[0] if found else default
+
+    def each(self, key, clauses, default=None):
+        """A text for each clause: of one alone behind the key, of several a line for each with the clause's name first."""
+        if len(clauses) == 1:
+            return [self.one(key, default)]
+        found = {}
+        for text in self.all(key):
+            name, _, text = text.partition(' ')
+            if name not in [c.name for c in clauses] or name in found or not text:
+                sys.exit(f'walk: the page\'s entry "{self}" has "{key} {name}": the clauses are {" ".join(c.name for c in clauses)}')
+            found[name] = text.strip()
+        for c in clauses:
+            if c.name not in found and default is None:
+                sys.exit(f'walk: the page\'s entry "{self}" lacks "{key} {c.name}"')
+        return [found.get(c.name, f'{default}-{c.name}') for c in clauses]
+
+
 class Page:
-    def __init__(self, file):
+    def __init__(self, text):
         self.uses, self.entries = [], []
-        for line in file.read_text().splitlines():
+        for line in text.splitlines():
             if not line.strip() or line.startswith('#'):
                 continue
             if line.startswith('use '):
                 self.uses.append(line)
-            elif not line.startswith(' '):
-                head, _, rest = line.partition(' ')
-                self.entries.append((head, rest.strip(), {}, []))
-            elif line.startswith('      '):
-                keys = self.entries[-1][2]
-                keys[list(keys)[-1]] += ' ' + line.strip()
+                continue
+            head, _, rest = line.strip().partition(' ')
+            if not line.startswith(' '):
+                self.entries.append(Entry(head, rest.strip()))
+            elif not self.entries:
+                sys.exit(f'walk: the page has a line that belongs to no entry: {line.strip()}')
+            elif not line.startswith('      '):
+                self.entries[-1].lines.append((head, rest.strip()))
+            elif self.entries[-1].lines:
+                key, text = self.entries[-1].lines[-1]
+                self.entries[-1].lines[-1] = key, text + ' ' + line.strip()
             else:
-                key, _, rest = line.strip().partition(' ')
-                if key in ('var', 'slice'):
-                    self.entries[-1][3].append((key, *rest.split()))
-                else:
-                    self.entries[-1][2][key] = rest.strip()
+                self.entries[-1].text += ' ' + line.strip()
         self.next = 0
 
-    def take(self, kind, what=''):
+    def take(self, kind, what='', *keys):
+        """The next entry, which has to be of this kind and can have these keys."""
         if self.next == len(self.entries):
             sys.exit(f'walk: the page ends, and the code goes on with: {kind} {what}')
-        head, rest, keys, more = self.entries[self.next]
-        if head != kind or (what and rest != what):
-            sys.exit(f'walk: the page has "{head} {rest}" where the code has: {kind} {what}')
+        entry = self.entries[self.next]
+        if entry.head != kind or (what and entry.text != what):
+            sys.exit(f'walk: the page has "{entry}" where the code has: {kind} {what}')
+        for key, _ in entry.lines:
+            if key not in keys:
+                sys.exit(f'walk: the page\'s entry "{entry}" has "{key}", which it cannot have')
         self.next += 1
-        return rest, keys, more
+        return entry

@@ -1,6 +1,6 @@
 """The step of a call, as a module that walks share."""
 
-from walking.text import PREAMBLE, Stack, chain, clause_uses, imports, listed, merged, par, path, slice_row
+from walking.text import PREAMBLE, Stack, chain, clause_uses, imports, listed, merged, par, path, shown, slice_row
 
 
 def call_step(g, crate):
@@ -22,21 +22,22 @@ def call_step(g, crate):
     after_ws = {p.name: f'(ws·{path(g.index(p))})' for p in g.refs if p.mut}
     values = {p.name: p.name for p in g.params if not p.slice}
     result = 'r' if 'r' not in values else 'res'
-    fact = g.said(g.gives, entry, after, values, result)
-    fact_ws = g.said(g.gives, entry, after_ws, values, result)
-    needs = g.needs and g.said(g.needs, entry, {}, values)
+    facts = [g.said(c, entry, after, values, result) for c in g.gives]
+    facts_ws = [g.said(c, entry, after_ws, values, result) for c in g.gives]
+    needs = [g.said(c, entry, {}, values) for c in g.needs]
+    needed = ['needed'] if len(needs) == 1 else [f'needed-{c.name}' for c in g.needs]
+    heard = ['e·'] if len(facts) == 1 else [f'e-{c.name}·' for c in g.gives]
     have = [f'‵ (flft κ-{p.plain} q-{p.plain}) ∷ ‵ ({slice_row(p, g.lifetime(p), "κ-" + p.plain)} .own {p.name} (s-{p.plain} ∷ []))' for p in g.refs]
     evidence = [f'{v.label()}-{p.plain}' for p in g.params if not p.slice for v in [p.value] if v.name != 'bool']
     evidence_ty = [p.value.evidence(p.name) for p in g.params if not p.slice and p.value.name != 'bool']
-    hyps = evidence + (['needed'] if needs else [])
-    hyps_ty = evidence_ty + ([needs] if needs else [])
+    hyps, hyps_ty = evidence + needed, evidence_ty + needs
     arrows = ''.join(f'{par(t)} → ' if ' ' in t else f'{t} → ' for t in hyps_ty)
     # what the callee asks
     st = Stack([x for p in g.refs for x in (('tok', p.name), ('own', p.name))])
     st.owned(g.params, {p.name: p.value.relation(f'{p.value.label()}-{p.plain}') for p in g.params if not p.slice})
     st.tokens(g.refs)
     st.front('alive', 'owns')
-    goes = ' '.join(([f'says ! needed $'] if needs else []) + st.text + (['done !'] if needs else ['join ! $ frame ! $ done !']))
+    goes = ' '.join(([shown(needs, needed)] if needs else []) + st.text + (['done !'] if needs else ['join ! $ frame ! $ done !']))
     # what it gives
     unit = g.result.name == '()'
     alive = ' ⊛ '.join([f'‵ (flft κ-{p.plain} q-{p.plain})' for p in g.refs] + ['‵ ftrue'])
@@ -85,13 +86,17 @@ def call_step(g, crate):
     st.front(*[x for p in g.refs for x in [('tok', p.name)] + ([('fin', p.name)] if p.mut else [])])
     muts = [p for p in g.refs if p.mut]
     binders = ([] if unit else [f'({result} : {g.result.denot})']) + [f'({p.plain}′ : List {par(p.value.denot)})' for p in muts]
-    proofs = ([] if unit or g.result.name == 'bool' else [g.result.evidence(result)]) + [f'length {p.plain}′ ≡ length ({p.name} .now)' for p in muts] + [fact]
+    proofs = ([] if unit or g.result.name == 'bool' else [g.result.evidence(result)]) + [f'length {p.plain}′ ≡ length ({p.name} .now)' for p in muts] + facts
     then = ''.join(f'{b} ' for b in binders) + ('→ ' if binders else '') + ''.join(f'{par(t)} → ' for t in proofs)
     given = ([] if unit else [result]) + [after_ws[p.name] for p in muts]
     if not unit and g.result.name != 'bool':
         moved = f'(subst (λ (us : List Val). Is {g.result.row} {result} us) ({g.result.tells} {result} (w· ∷ []) is·) is·'
         given.append(moved + (' .1)' if g.result.width else ')'))
-    given += [f'l-{p.plain}' for p in muts] + ['e·']
+    given += [f'l-{p.plain}' for p in muts] + heard
+    # the clauses side by side are taken apart and heard one by one
+    said = ''.join(f'⊛ (raw (fact 𝓤 ({t})) ' for t in facts_ws[:-1]) + f'⊛ raw (fact 𝓤 ({facts_ws[-1]}))' + ')' * (len(facts) - 1)
+    hears = ' '.join(f'{"" if t is facts_ws[-1] else "split ! $ "}heard ! ({t}) (λ {e}.' for t, e in zip(facts_ws, heard))
+    close += ')' * len(facts)
     final = result if not unit else 'tt'
     context = ' ∷ '.join(back + ['Γ'])
     context_ws = ' ∷ '.join(back_ws + ['Γ'])
@@ -115,9 +120,9 @@ module _ {PREAMBLE} {' '.join(tele)} where
     after : (goal· : Val → Goal 𝓤 H) → ((w· : Val) → Soaks (goal· w·)) → ({then}Sq W ({context}) (goal· ({g.result.val(result)}))) → (w· : Val) → Sq W (raw ({contract} .post bound w·) ∷ Γ) (goal· w·)
     after goal· soaks· k· w· =
         use1 W (later (some (λ ({rvar} : {rtype}). (({alive}) ⊛ ‵ ({g.result.row} .own {rvar} (w· ∷ []))) ⊛ raw (ensured 𝓤 H A callee.ended (callee.clauses 𝓤 H A mem run) {kappas} {args} tt {rvar})))) (id⊢ 𝓤 _) $ await ! (soaks· w·) $ pick ! (λ {rvar}. split ! $ move ! (1 ∷ []) $
-        use1 W (some (λ (ws· : {lasts}). ‵ (lasts callee.ended {kappas} {args} ws·) ⊛ raw (fact 𝓤 ({fact_ws})))) (id⊢ 𝓤 _) $ pick ! (λ ws·. split ! $ move ! (1 ∷ []) $ heard ! ({fact_ws}) (λ e·.
+        use1 W (some (λ (ws· : {lasts}). ‵ (lasts callee.ended {kappas} {args} ws·) {said})) (id⊢ 𝓤 _) $ pick ! (λ ws·. split ! $ move ! (1 ∷ []) $ {hears}
         {' '.join(st.text)}
-        subst (λ (u· : Val). Sq W ({context_ws}) (goal· u·)) (sym ({equal})) (k· {' '.join(given)})))){close}
+        subst (λ (u· : Val). Sq W ({context_ws}) (goal· u·)) (sym ({equal})) (k· {' '.join(given)}))){close}
 
     module _ {{C : Calls 𝓤 H}} {{Λ : Loops 𝓤 H}} {{E· : Env 𝓤 H}} {{p· : Post 𝓤 H}} {{d· : Place}} {{xs· : List Operand}} where
       pub calls-{antt} : {{rest· : Body}} → FmC 𝓤 H (W .laws) C → Triple 𝓤 (C {g.key()}) ({contract}) → {arrows}Opds (Go {{0}}) W (raw ({contract} .pre bound) ∷ Γ) E· xs· ({listed(vals)})

@@ -150,7 +150,7 @@ part-{n} {names}=
                 return f'agg ! ({text})', Local('rest', None, term, parts[1][1].within, ref), None
             ref, size = parts[0][1].ref, parts[1][1]
             if size.term != par(ref.count):
-                what = Local('front', None, size.term, self.page.take('within')[0], ref)
+                what = Local('front', None, size.term, self.page.take('within').text, ref)
                 what.fits = size.proof
                 return f'agg ! ({text})', what, None
             return f'agg ! ({text})', Local('slice', ref=ref), None
@@ -163,7 +163,7 @@ part-{n} {names}=
                 what.facts = [(f'({law} {a.term} {b.term})', fact.format(a=a.term, b=b.term)) for law, fact in facts]
                 return f'bin ! ({ta}) ({tb}) tt', what, None
             if op in ('add', 'sub'):
-                proof, _, _ = self.page.take('fits')
+                proof = self.page.take('fits').text
                 sign = '+' if op == 'add' else '-'
                 term = f'({a.term} {sign} {b.term})'
                 fits = f'({proof})'
@@ -173,7 +173,7 @@ part-{n} {names}=
                     return f'bin ! ({ta}) ({tb}) ({proof})', what, None
                 return f'bin ! ({ta}) ({tb}) (record {{ fits = {proof} }})', Local('value', a.value, term, fits), None
             if op == 'mul':
-                within, _, _ = self.page.take('within')
+                within = self.page.take('within').text
                 i = a.term
                 what = Local('value', a.value, f'({i} * {b.term})', None)
                 what.index, what.within, what.size = a, within, b.term
@@ -203,8 +203,7 @@ part-{n} {names}=
     def branch(self, stmts, i, st, after):
         s = stmts[i]
         to, what = self.read(st, s[1])
-        rest, _, _ = self.page.take('test')
-        yes, no = (rest.split() + [None, None])[:2]
+        yes, no = (self.page.take('test').text.split() + [None, None])[:2]
         n = self.fresh()
         yes, no = yes or f'yes{n}', no or f'no{n}'
         self.bound_names |= {yes, no}
@@ -243,11 +242,11 @@ part-{n} {names}=
             return f'exec ! (𝓣 .C) (𝓣 .Λ) En this-mir.t-{i + 1} (atRet En Ends) ${nl}' + self.run(stmts, i, st, beyond)
         # a turn's end
         _, loop = after
-        _, keys, _ = self.page.take('again')
+        page = self.page.take('again', '', 'inv', 'nearer')
         text = ''.join(self.forget(st, k) for k in range(len(self.locals)) if st.cells[k] is not None and k not in loop['live'])
         parts = [st.cells[k].term for k, _, _ in loop['vars']] + [st.lists[p.name][0] for p, _ in loop['slices']]
-        proofs = [st.cells[k].proof for k, _, v in loop['vars'] if v.name != 'bool'] + [st.lists[p.name][1] for p, _ in loop['slices']] + [keys['inv']]
-        return text + f'again ! Nearer At {loop["here"]} {tupled(parts + proofs)} ({keys.get("nearer", "omega arith")})'
+        proofs = [st.cells[k].proof for k, _, v in loop['vars'] if v.name != 'bool'] + [st.lists[p.name][1] for p, _ in loop['slices']] + [page.one('inv')]
+        return text + f'again ! Nearer At {loop["here"]} {tupled(parts + proofs)} ({page.one("nearer", "omega arith")})'
 
     def free(self, st):
         """All locals are freed: they stand last in the context, the last one first."""
@@ -262,7 +261,11 @@ part-{n} {names}=
         return text + f'released ! ({listed(self.entry(st, x) for x in others)}) ({freed}) $ '
 
     def leaves(self, st):
-        proof, _, _ = self.page.take('return')
+        gives = self.f.gives
+        page = self.page.take('return', '', *([c.name for c in gives] if len(gives) > 1 else []))
+        if len(gives) > 1 and page.text:
+            sys.exit(f'walk: the page has "{page}": the clauses are {" ".join(c.name for c in gives)}, with a line for each')
+        proofs = [page.one(c.name) for c in gives] if len(gives) > 1 else [page.text]
         c = self.cell(st, 0)
         text, close = self.close_tables(st)
         text += f'returns-within ! Ends refl (look ! {st.pos(("cell", 0))} refl) $ '
@@ -270,4 +273,4 @@ part-{n} {names}=
         unit = self.f.result.name == '()'
         args = ([] if unit else [par(c.term)]) + [st.lists[p.name][0] for p in self.f.refs if p.mut]
         args += ([] if unit or self.f.result.name == 'bool' else [par(c.proof)]) + [st.lists[p.name][1] for p in self.f.refs if p.mut]
-        return text + f'by ! (exits {" ".join(args + [par(proof)])})' + close
+        return text + f'by ! (exits {" ".join(args + list(map(par, proofs)))})' + close

@@ -21,7 +21,7 @@ class Tables:
         v = what.value
         if v.width or v.name in ('bool', '()') or v.name.startswith('['):
             sys.exit('walk: an array that is not one of records: make it in a covered function')
-        name, _, _ = self.page.take('table')
+        name = self.page.take('table').text
         ref = Table(name, v, k, n)
         self.rooms.append(f'{ref.room} : Room {par(v.row)} {n}\n{ref.room} = (lit< tt, lit< tt)\n\n')
         u = v.val(what.term)

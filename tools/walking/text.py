@@ -35,6 +35,13 @@ def listed(xs):
     return ' ∷ '.join(list(xs) + ['[]'])
 
 
+def shown(clauses, proofs):
+    """The step that shows a contract's clauses."""
+    if len(clauses) == 1:
+        return f'says ! {proofs[0]} $'
+    return f'says-all ! ({clauses[0]}) ({listed(f"({c})" for c in clauses[1:])}) {tupled(proofs)} $'
+
+
 def path(k):
     return ' .1' * k + ' .0'
 
@@ -67,7 +74,7 @@ def clause_uses(signature, crate):
     """Imports for the words of a function's contract."""
     out = {}
     src = source(signature.crate)
-    for w in words_of((signature.needs or '') + ' ' + signature.gives):
+    for w in words_of(' '.join(c.fact for c in signature.needs + signature.gives)):
         for n in (w, f'_{w}_'):
             if n in src.uses:
                 module = src.uses[n]

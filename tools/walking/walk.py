@@ -15,7 +15,7 @@ from walking.step import call_step
 from walking.steps import Steps
 from walking.tables import Tables
 from walking.terms import Terms
-from walking.text import PREAMBLE, Stack, chain, clause_uses, imports, indent, listed, merged, par, path, slice_row
+from walking.text import PREAMBLE, Stack, chain, clause_uses, imports, indent, listed, merged, par, path, shown, slice_row
 
 
 class Walk(Steps, Elements, Tables, Calling, Looping, Terms):
@@ -30,7 +30,7 @@ class Walk(Steps, Elements, Tables, Calling, Looping, Terms):
         self.f = Signature(crate, name)
         self.locals = [x[1] for x in items(item[4])]
         self.body = statements(item[5])
-        self.page = Page(Path('crates', crate, 'walks', name.replace('::', '/') + '.walk'))
+        self.page = Page(Path('crates', crate, 'walks', name.replace('::', '/') + '.walk').read_text())
         self.callees, self.values, self.count = {}, [p.value for p in self.f.params] + [self.f.result], 0
         self.lemmas, self.heads, self.rooms, self.has_loop, self.bound_names = [], [], [], False, set()
 
@@ -71,9 +71,10 @@ class Walk(Steps, Elements, Tables, Calling, Looping, Terms):
         script = self.part(0, st, None)
         if self.page.next != len(self.page.entries):
             sys.exit(f'walk: the page goes on after the code has ended: {self.page.entries[self.page.next][0]}')
+        needed = [c.name or 'needed' for c in f.needs]
         taken = {n for _, names in library() for n in names}
         taken |= {'args', 'Args', 'machine', 'Ends', 'En', 'State', 'measure', 'Nearer', 'head', 'At', 'Turned', 'turn', 'turns', 'walk', 'exits', 'stayed'}
-        for x in {p.name for p in f.params} | self.bound_names:
+        for x in {p.name for p in f.params} | set(needed) | self.bound_names:
             if x in taken:
                 sys.exit(f'walk: {x} is a name of the logic: choose another')
         slots = ['stay-slice' if p.mut else 'stay-none-slice' if p.slice else 'stay-none' for p in f.params]
@@ -92,12 +93,13 @@ class Walk(Steps, Elements, Tables, Calling, Looping, Terms):
         values = {p.name: p.name for p in f.params if not p.slice}
         muts = [p for p in f.refs if p.mut]
         unit = f.result.name == '()'
-        needs = f.needs and f.said(f.needs, entry, {}, values)
+        needs = [f.said(c, entry, {}, values) for c in f.needs]
         result = 'r' if 'r' not in values else 'res'
-        fact = f.said(f.gives, entry, end, values, result)
+        facts = [f.said(c, entry, end, values, result) for c in f.gives]
+        said = ['said'] if len(facts) == 1 else [f'said-{c.name}' for c in f.gives]
         tele = [f'(κ-{p.plain} : Lft) (q-{p.plain} : Share) (b-{p.plain} o-{p.plain} : ℕ) (γ-{p.plain} : GName) ({p.name} : List {par(p.value.denot)})' if p.slice else f'({p.name} : {p.value.denot})' for p in f.params]
         tele += [f'(room-{p.plain} : Room {par(p.value.row)} (length {p.name}))' if p.slice else f'({p.value.label()}-{p.plain} : {p.value.evidence(p.name)})' for p in f.params if p.slice or p.value.name != 'bool']
-        tele += [f'({f.needed} : {needs})'] if needs else []
+        tele += [f'({name} : {fact})' for name, fact in zip(needed, needs)]
         given = []
         for p in f.params:
             j = f.index(p)
@@ -128,7 +130,7 @@ class Walk(Steps, Elements, Tables, Calling, Looping, Terms):
         out.tokens(f.refs)
         out.front('alive', 'owns', 'res')
         exit_binders = ([] if unit else [(result, f.result.denot)]) + [(end[p.name], f'List {par(p.value.denot)}') for p in muts]
-        exit_facts = ([] if unit or f.result.name == 'bool' else [(f'{f.result.label()}-res', f.result.evidence(result))]) + [(f'long-{p.plain}', f'length {end[p.name]} ≡ length {p.name}') for p in muts] + [('said', fact)]
+        exit_facts = ([] if unit or f.result.name == 'bool' else [(f'{f.result.label()}-res', f.result.evidence(result))]) + [(f'long-{p.plain}', f'length {end[p.name]} ≡ length {p.name}') for p in muts] + list(zip(said, facts))
         last = chain([end[p.name] if p.slice and p.mut else 'tt' for p in f.params])
         fits = chain([f'long-{p.plain}' if p.slice and p.mut else 'tt' for p in f.params])
         alive = ' ⊛ '.join([f'‵ (flft κ-{p.plain} q-{p.plain})' for p in f.refs] + ['‵ ftrue'])
@@ -144,9 +146,12 @@ class Walk(Steps, Elements, Tables, Calling, Looping, Terms):
         tells = chain([f'{"mut" if p.mut else "shr"}-slice-tells (named {f.lifetime(p)}) (κs{path(f.lifetime(p))}) {par(p.value.row)}' if p.slice else p.value.tells for p in f.params])
         antt = f.antt()
         closing = ')' * n
-        if needs:
-            at_a = f.said(f.needs, {p.name: f'(a{path(f.index(p))} .now)' for p in f.refs}, {}, {p.name: f'(a{path(f.index(p))})' for p in f.params if not p.slice})
-            start = f'needs 𝓤 ({at_a}) _ (λ needed. walk 𝓤 H A W mem run {" ".join(given)} needed 𝓣 {knowns})'
+        at_a = [f.said(c, {p.name: f'(a{path(f.index(p))} .now)' for p in f.refs}, {}, {p.name: f'(a{path(f.index(p))})' for p in f.params if not p.slice}) for c in f.needs]
+        if len(needs) > 1:
+            each = [f'(needed{" .1" * j}{" .0" if j < len(needs) - 1 else ""})' for j in range(len(needs))]
+            start = f'needs-all 𝓤 ({at_a[0]}) ({listed(f"({t})" for t in at_a[1:])}) _ (λ needed. walk 𝓤 H A W mem run {" ".join(given + each)} 𝓣 {knowns})'
+        elif needs:
+            start = f'needs 𝓤 ({at_a[0]}) _ (λ needed. walk 𝓤 H A W mem run {" ".join(given)} needed 𝓣 {knowns})'
         else:
             start = f'via 𝓤 _ (fst∗ 𝓤 _ (emp 𝓤)) (walk 𝓤 H A W mem run {" ".join(given)} 𝓣 {knowns})'
         heads = indent(''.join(self.heads), 2)
@@ -175,7 +180,7 @@ module _ {PREAMBLE} {" ".join(tele)} where
   exits : {"".join(f"({n} : {t}) " for n, t in exit_binders + exit_facts)}→ ent 𝓤 (⋆ 𝓤 H A ({' ∷ '.join(refs_now + ['[]'])})) (Ends ({f.result.val(result)}))
   exits {"".join(n + " " for n, _ in exit_binders + exit_facts)}=
       qed W ({' ∷ '.join(refs_now + ['[]'])}) ∵
-      suffices ! _ (ends-at 𝓤 H A this.ended stayed (this.clauses 𝓤 H A mem run) W {here} ({f.result.val(result)}) {'tt' if unit else result} {last} {fits}) $ says ! said $
+      suffices ! _ (ends-at 𝓤 H A this.ended stayed (this.clauses 𝓤 H A mem run) W {here} ({f.result.val(result)}) {'tt' if unit else result} {last} {fits}) $ {shown(facts, said)}
       {' '.join(out.text)} done !
 {heads}
   {open_known}

@@ -42,7 +42,9 @@ module _ (old new : List ℕ) (k : ℕ) (pair : Pair) (is-pair : pair ≡ pairOf
       let e : r .number ≡ number = number-is r _ a in
       let n = only-elim _ (readBoth 0 0 old new) _ (both-numbers 0 0 old new) read in
       record {
-        sheets = λ z. absurd (omega (arith, n .0));
+        old-sheet = λ z. absurd (omega (arith, n .0));
+        new-sheet = λ z. absurd (omega (arith, n .0));
+        rank = λ z. absurd (omega (arith, n .0));
         good = λ z. absurd (omega (arith, n .0));
         bad = λ _ records room. ap (ranked k records room) read ∙ ap (λ (a : model.Answer). record { answer = a; bytes = [] }) (sym a);
         uncleared = λ _. not-cleared (r .number) (omega (arith, n .0)) (omega (arith, n .1));
@@ -54,7 +56,9 @@ module _ (old new : List ℕ) (k : ℕ) (pair : Pair) (is-pair : pair ≡ pairOf
     rank-checked high a =
         let e : r .number ≡ 10 = number-is r _ a in
         record {
-          sheets = λ z. absurd (omega arith);
+          old-sheet = λ z. absurd (omega arith);
+          new-sheet = λ z. absurd (omega arith);
+          rank = λ z. absurd (omega arith);
           good = λ z. absurd (omega arith);
           bad =
               λ _ records room.
@@ -70,7 +74,9 @@ module _ (old new : List ℕ) (k : ℕ) (pair : Pair) (is-pair : pair ≡ pairOf
         let read = good-both 0 0 old new pair is-pair is-good in
         let sheets = both-sheets 0 0 old new _ read in
         record {
-          sheets = λ _. (sheets .0, sheets .1, low);
+          old-sheet = λ _. sheets .0;
+          new-sheet = λ _. sheets .1;
+          rank = λ _. low;
           good = λ _ records room. ap (ranked k records room) read ∙ rw (le-leb k 3 low) refl;
           bad = λ n. absurd (n e);
           uncleared = λ n. absurd (n e);

@@ -41,7 +41,9 @@ pub record Writes (o : Outcome) (r : Answer) (plan plan′ : List ℕ) : Type 0 
 -- What the check of the sheets, of the pair and of k answers: the number 0, and what follows is the outcome; or a refusal, which is the
 -- outcome already and leaves the records as they were.
 pub record Checked (k : ℕ) (old new : List ℕ) (r : Answer) : Type 0 where
-  pub sheets : r .number ≡ 0 → IsSheet old × IsSheet new × (k ≤ 3)
+  pub old-sheet : r .number ≡ 0 → IsSheet old
+  pub new-sheet : r .number ≡ 0 → IsSheet new
+  pub rank : r .number ≡ 0 → k ≤ 3
   pub good : r .number ≡ 0 → (records room : ℕ) → outcomeOf records room k old new ≡ connected k (contractIn old) (contractIn new) (limitOf records) room
   pub bad : (r .number ≡ 0 → ⊥) → (records room : ℕ) → outcomeOf records room k old new ≡ record { answer = answerOf r; bytes = [] }
   pub uncleared : (r .number ≡ 0 → ⊥) → clears (r .number) ≡ false

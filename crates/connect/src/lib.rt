@@ -151,7 +151,9 @@ fn connect_checked(
     work: &mut [table::Record],
     plan: &mut [u8],
 ) -> Answer
-    requires { ⌜ IsSheet (now old) × IsSheet (now new) × (k ≤ 3) ⌝ }
+    requires old_sheet { ⌜ IsSheet (now old) ⌝ }
+    requires new_sheet { ⌜ IsSheet (now new) ⌝ }
+    requires rank { ⌜ k ≤ 3 ⌝ }
     ensures { λ r. ⌜ Writes (connected k (contractIn (now (old .entry))) (contractIn (now (new .entry))) (limitOf (length (now (work .entry)))) (length (now (plan .entry)))) r (now (plan .entry)) (now (plan .exit)) ⌝ }
 {
     let limit = limit_of(work.len());

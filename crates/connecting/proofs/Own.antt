@@ -1,4 +1,4 @@
--- What connecting says of a table of 1,024 zero records, said of the answer and the plan alone.
+-- Connecting with a table of 1,024 zero records that a function made itself.
 -- Assumes nothing.
 use mathlib.Core.Path.{_≡_, _∙_, ap}
 use mathlib.Core.List.{List}
@@ -9,10 +9,8 @@ use Rattle.table.specs.declared.Record.{Record}
 use Rattle.table.specs.Records.{blank}
 use Rattle.connecting.specs.Own.{ownOf}
 
-pub own-answered : (k : ℕ) (old new plan : List ℕ) (z : Record) (table : List Record) (left : Connected Record) → z ≡ blank → table ≡ replicate 1024 z → left ≡ connectOf blank k old new table plan
-    → (left .answer ≡ ownOf k old new plan .answer) × (left .plan ≡ ownOf k old new plan .plan)
+pub own-outcome : (k : ℕ) (old new plan : List ℕ) (z : Record) (table : List Record) (left : Connected Record) → z ≡ blank → table ≡ replicate 1024 z → left ≡ connectOf blank k old new table plan
+    → left ≡ ownOf k old new plan
 unfolding ownOf
-own-answered k old new plan z table left zero made e =
-    let same : left ≡ connectOf blank k old new (replicate 1024 blank) plan =
-    e ∙ ap (λ (t : List Record). connectOf blank k old new t plan) (made ∙ ap (λ (x : Record). replicate 1024 x) zero) in
-    (ap (λ (c : Connected Record). c .answer) same, ap (λ (c : Connected Record). c .plan) same)
+own-outcome k old new plan z table left zero made e =
+    e ∙ ap (λ (t : List Record). connectOf blank k old new t plan) (made ∙ ap (λ (x : Record). replicate 1024 x) zero)

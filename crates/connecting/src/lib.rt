@@ -56,7 +56,8 @@ fn print_rows(plan: &[u8], states: u16) {
 
 // Connects two sheets with 1,024 lent records.
 fn connect_own(k: u8, old: &[u8], new: &[u8], plan: &mut [u8]) -> connect::Answer
-    ensures { λ r. ⌜ (answerOf r ≡ ownOf k (now (old .entry)) (now (new .entry)) (now (plan .entry)) .answer) × (now (plan .exit) ≡ ownOf k (now (old .entry)) (now (new .entry)) (now (plan .entry)) .plan) ⌝ }
+    ensures answered { λ r. ⌜ answerOf r ≡ ownOf k (now (old .entry)) (now (new .entry)) (now (plan .entry)) .answer ⌝ }
+    ensures planned { λ _. ⌜ now (plan .exit) ≡ ownOf k (now (old .entry)) (now (new .entry)) (now (plan .entry)) .plan ⌝ }
 {
     let zero = table::zero_record();
     let mut work = [zero; 1024];

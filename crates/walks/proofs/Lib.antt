@@ -7,3 +7,4 @@ pub mod Elements
 pub mod Places
 pub mod Branches
 pub mod Freed
+pub mod Clauses

@@ -111,7 +111,7 @@ module _ {M : Type 1} (𝓤 : URA M) (H : Heap 𝓤) (A : Atoms 𝓤) (W : Given
           assigns ! (addr ! (from ! (fld ! refl (hop ! (look-in ! 28 (sub ! 0 refl (whole !))) (stop !))))) (from ! (stop !)) (init ! 16 refl (tt, tt)) $
           assigns ! (agg ! (and-then ! (load ! (from ! (stop !)) (look ! 16 refl)) (and-then ! (load ! (from ! (fld ! refl (stop !))) (look-in ! 28 (sub ! 1 refl (whole !)))) (no-more !)))) (from ! (stop !)) (init ! 14 refl (tt, (tt, (record { fits = room-plan .0 }, tt)))) $
           share ! u8 (named 0) κ-old (lentAt b-old o-old γ-old old) (s-old ∷ []) (move ! (3 ∷ []) $ share ! u8 (named 1) κ-new (lentAt b-new o-new γ-new new) (s-new ∷ []) (move ! (6 ∷ 7 ∷ []) $ lend ! tt Record-row.the-row (named 2) κ-work q-work γ-work b-work o-work (length work) work refl (λ ν-4-work δ-4-work. move ! (9 ∷ 10 ∷ []) $ lend ! tt u8 (named 3) κ-plan q-plan γ-plan b-plan o-plan (length plan) plan refl (λ ν-4-plan δ-4-plan. move ! (10 ∷ 8 ∷ 11 ∷ 6 ∷ 3 ∷ 4 ∷ 0 ∷ 1 ∷ []) $
-          calls-connect-checked 𝓤 H A W mem run k κ-old q-old (lentAt b-old o-old γ-old old) s-old κ-new q-new (lentAt b-new o-new γ-new new) s-new (ν-4-work ∷ []) fullShare (lentAt b-work o-work δ-4-work work) s-work (ν-4-plan ∷ []) fullShare (lentAt b-plan o-plan δ-4-plan plan) s-plan (fmOf 𝓤 H (W .laws) 𝓣) known-connect-checked fits-k (begin-is .sheets good)
+          calls-connect-checked 𝓤 H A W mem run k κ-old q-old (lentAt b-old o-old γ-old old) s-old κ-new q-new (lentAt b-new o-new γ-new new) s-new (ν-4-work ∷ []) fullShare (lentAt b-work o-work δ-4-work work) s-work (ν-4-plan ∷ []) fullShare (lentAt b-plan o-plan δ-4-plan plan) s-plan (fmOf 𝓤 H (W .laws) 𝓣) known-connect-checked fits-k (begin-is .old-sheet good) (begin-is .new-sheet good) (begin-is .rank good)
           (and-then ! (load ! (from ! (stop !)) (look ! 33 refl)) (and-then ! (load ! (from ! (stop !)) (look ! 31 refl)) (and-then ! (load ! (from ! (stop !)) (look ! 29 refl)) (and-then ! (load ! (from ! (stop !)) (look ! 15 refl)) (and-then ! (load ! (from ! (stop !)) (look ! 11 refl)) (no-more !)))))) (λ answer between written is-answer same-between same-written is-written.
           move ! (2 ∷ 7 ∷ 3 ∷ []) $ regain ! tt Record-row.the-row (named 2) κ-work q-work γ-work b-work o-work (length work) work refl ν-4-work δ-4-work between room-work same-between (move ! (4 ∷ 6 ∷ 5 ∷ []) $ regain ! tt u8 (named 3) κ-plan q-plan γ-plan b-plan o-plan (length plan) plan refl ν-4-plan δ-4-plan written room-plan same-written (move ! (7 ∷ 4 ∷ 6 ∷ 5 ∷ 2 ∷ 3 ∷ 0 ∷ 1 ∷ []) $ land ! (from ! (stop !)) (init ! 24 refl (LL.lawful Answer-row.the-type Answer-laws.the-laws 𝓤 H A W .typed answer _ is-answer .0)) $
           assigns ! (addr ! (from ! (fld ! refl (hop ! (look-in ! 30 (sub ! 0 refl (whole !))) (stop !))))) (from ! (stop !)) (init ! 10 refl (tt, tt)) $

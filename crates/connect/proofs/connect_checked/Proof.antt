@@ -1,9 +1,10 @@
 -- `connect::connect_checked` meets its contract: a walk of its code, written by tools/walk from walks/connect_checked.walk.
 -- Assumes nothing.
-use Rattle.walks.proofs.Logic.{_≡_, refl, _∙_, ℕ, _<_, _≤_, _^_, List, [], _∷_, lit<, eqb, length, URA, fullShare, Ty, named, erased, imm, mut, w8, w16, w64, tyInt, tyBool, tyRef, Val, vint, vbool, vptr, SProp, ent, Lft, Share, GName, ftrue, flft, Memory, Routine, Heap, Env, WpFn, Tables, Atoms, Fun, tablesOf, givenOf, tables, Given, Sq, runs, atRet, ‵, _⊛_, ⋆, _$_, _∵_, !, qed, by, move, keep, split, join, fsplit, fjoin, suffices, done, look, init, store, forget, stop, hop, fld, from, load, lit, addr, and-then, no-more, land, of-opd, bin, assigns, returns-within, enter, alloc1, alloc0, params1, pass1, pass0, agg, whole, sub, look-in, fmOf, WpFn-mono, owns, Is, pointee, RefT, sliceTy, sliceVal, MutSlice, ShrSlice, Room, slice-vals, mut-slice-tells, shr-slice-tells, uint-makes, uint-vals, uint-tells, u8, owned, nothing, plain, onEntry, Meets, tripleOf, Triple, entered, cited, says, needs, Stays, stay-none, stay-slice, stay-none-slice, walkOf, goes-none, goes-slice, goes-none-slice, Walks, ends-at, walked, walk-meets, yes}
+use Rattle.walks.proofs.Logic.{_≡_, refl, _∙_, ℕ, _<_, _≤_, _^_, List, [], _∷_, lit<, eqb, length, URA, fullShare, Ty, named, erased, imm, mut, w8, w16, w64, tyInt, tyBool, tyRef, Val, vint, vbool, vptr, SProp, ent, Lft, Share, GName, ftrue, flft, Memory, Routine, Heap, Env, WpFn, Tables, Atoms, Fun, tablesOf, givenOf, tables, Given, Sq, runs, atRet, ‵, _⊛_, ⋆, _$_, _∵_, !, qed, by, move, keep, split, join, fsplit, fjoin, suffices, done, look, init, store, forget, stop, hop, fld, from, load, lit, addr, and-then, no-more, land, of-opd, bin, assigns, returns-within, enter, alloc1, alloc0, params1, pass1, pass0, agg, whole, sub, look-in, fmOf, WpFn-mono, owns, Is, pointee, RefT, sliceTy, sliceVal, MutSlice, ShrSlice, Room, slice-vals, mut-slice-tells, shr-slice-tells, uint-makes, uint-vals, uint-tells, u8, owned, nothing, plain, onEntry, Meets, tripleOf, Triple, entered, cited, says, Stays, stay-none, stay-slice, stay-none-slice, walkOf, goes-none, goes-slice, goes-none-slice, Walks, ends-at, walked, walk-meets, yes}
 use Rattle.walks.proofs.Branches.{empty, full, equal, unequal, guards}
 use Rattle.walks.proofs.Freed.{bare, held, released}
 use Rattle.walks.proofs.Lent.{lentAt, lend, regain, share}
+use Rattle.walks.proofs.Clauses.{needs-all}
 use denote.Struct.Laws as LL
 use Rattle.connect.proofs.connect_checked as this
 use Rattle.connect.proofs.connect_checked.Statement as this-stated
@@ -71,7 +72,7 @@ abbrev τ7 : Ty
 abbrev stayed : Stays (this.ended .signature .params) (this.ended .kept)
 stayed = (stay-none (λ _. u8) yes, (stay-none-slice (0 ∷ []) tt (plain (λ _. u8)) yes, (stay-none-slice (1 ∷ []) tt (plain (λ _. u8)) yes, (stay-slice (2 ∷ []) tt (plain (λ _. Record-row.the-row)), (stay-slice (3 ∷ []) tt (plain (λ _. u8)), tt)))))
 
-module _ {M : Type 1} (𝓤 : URA M) (H : Heap 𝓤) (A : Atoms 𝓤) (W : Given 𝓤 H A) (mem : Memory → SProp 𝓤) (run : Routine → Fun 𝓤) (k : ℕ) (κ-old : Lft) (q-old : Share) (b-old o-old : ℕ) (γ-old : GName) (old : List ℕ) (κ-new : Lft) (q-new : Share) (b-new o-new : ℕ) (γ-new : GName) (new : List ℕ) (κ-work : Lft) (q-work : Share) (b-work o-work : ℕ) (γ-work : GName) (work : List Record) (κ-plan : Lft) (q-plan : Share) (b-plan o-plan : ℕ) (γ-plan : GName) (plan : List ℕ) (fits-k : k < 2 ^ 8) (room-old : Room u8 (length old)) (room-new : Room u8 (length new)) (room-work : Room Record-row.the-row (length work)) (room-plan : Room u8 (length plan)) (needed : IsSheet (old) × IsSheet (new) × (k ≤ 3)) where
+module _ {M : Type 1} (𝓤 : URA M) (H : Heap 𝓤) (A : Atoms 𝓤) (W : Given 𝓤 H A) (mem : Memory → SProp 𝓤) (run : Routine → Fun 𝓤) (k : ℕ) (κ-old : Lft) (q-old : Share) (b-old o-old : ℕ) (γ-old : GName) (old : List ℕ) (κ-new : Lft) (q-new : Share) (b-new o-new : ℕ) (γ-new : GName) (new : List ℕ) (κ-work : Lft) (q-work : Share) (b-work o-work : ℕ) (γ-work : GName) (work : List Record) (κ-plan : Lft) (q-plan : Share) (b-plan o-plan : ℕ) (γ-plan : GName) (plan : List ℕ) (fits-k : k < 2 ^ 8) (room-old : Room u8 (length old)) (room-new : Room u8 (length new)) (room-work : Room Record-row.the-row (length work)) (room-plan : Room u8 (length plan)) (old-sheet : IsSheet (old)) (new-sheet : IsSheet (new)) (rank : k ≤ 3) where
   abbrev s-old : Val
   s-old = sliceVal (b-old, o-old) (length old)
 
@@ -110,7 +111,7 @@ module _ {M : Type 1} (𝓤 : URA M) (H : Heap 𝓤) (A : Atoms 𝓤) (W : Given
 
       part-8 : (limit : ℕ) (fits-limit : limit < 2 ^ 64) (limit-is : limit ≡ limitOf (length work)) (count : ℕ) (found : List Record) (fits-count : count < 2 ^ 16) (same-found : length found ≡ length work) (explored : ExploredWork k (contractIn (old)) (contractIn (new)) limit count (work) (found)) (some-count : count ≡ 0 → ⊥) (total : ℕ) (fits-total : total < 2 ^ 64) (total-is : total ≡ count) (answer : Answer) (related : List Record) (written : List ℕ) (is-answer : Is Answer-row.the-row answer (Answer-laws.lowered answer ∷ [])) (same-related : length related ≡ length found) (same-written : length written ≡ length plan) (is-written : Writes (relatedIn k (contractIn (old)) (contractIn (new)) (keysOf (found)) (linksOf (found)) total (length (plan))) answer (plan) (written)) → Sq W (‵ (ShrSlice (named 0) κ-old u8 .own (lentAt b-old o-old γ-old old) (s-old ∷ [])) ∷ ‵ (flft κ-old q-old) ∷ ‵ (ShrSlice (named 1) κ-new u8 .own (lentAt b-new o-new γ-new new) (s-new ∷ [])) ∷ ‵ (flft κ-new q-new) ∷ ‵ (MutSlice (named 2) κ-work Record-row.the-row .own (lentAt b-work o-work γ-work related) (s-work ∷ [])) ∷ ‵ (flft κ-work q-work) ∷ ‵ (MutSlice (named 3) κ-plan u8 .own (lentAt b-plan o-plan γ-plan written) (s-plan ∷ [])) ∷ ‵ (flft κ-plan q-plan) ∷ empty τ7 l15 (empty τ6 l14 (empty τ5 l13 (empty τ4 l12 (empty tyBool l11 (empty τ5 l10 (empty τ4 l9 (empty (tyInt w64) l8 (empty (tyInt w16) l7 (empty (tyInt w64) l6 (empty τ3 l5 (empty τ2 l4 (empty τ1 l3 (empty τ0 l2 (empty (tyInt w8) l1 (full Answer-laws.mir l0 (Answer-laws.lowered answer) ([]))))))))))))))))) (runs (𝓣 .C) (𝓣 .Λ) En this-mir.t-14 (atRet En Ends))
       part-8 limit fits-limit limit-is count found fits-count same-found explored some-count total fits-total total-is answer related written is-answer same-related same-written is-written =
-          returns-within ! Ends refl (look ! 38 refl) $ released ! (‵ (ShrSlice (named 0) κ-old u8 .own (lentAt b-old o-old γ-old old) (s-old ∷ [])) ∷ ‵ (flft κ-old q-old) ∷ ‵ (ShrSlice (named 1) κ-new u8 .own (lentAt b-new o-new γ-new new) (s-new ∷ [])) ∷ ‵ (flft κ-new q-new) ∷ ‵ (MutSlice (named 2) κ-work Record-row.the-row .own (lentAt b-work o-work γ-work related) (s-work ∷ [])) ∷ ‵ (flft κ-work q-work) ∷ ‵ (MutSlice (named 3) κ-plan u8 .own (lentAt b-plan o-plan γ-plan written) (s-plan ∷ [])) ∷ ‵ (flft κ-plan q-plan) ∷ []) (held Answer-laws.mir l0 (Answer-laws.lowered answer) ∷ bare (tyInt w8) l1 ∷ bare τ0 l2 ∷ bare τ1 l3 ∷ bare τ2 l4 ∷ bare τ3 l5 ∷ bare (tyInt w64) l6 ∷ bare (tyInt w16) l7 ∷ bare (tyInt w64) l8 ∷ bare τ4 l9 ∷ bare τ5 l10 ∷ bare tyBool l11 ∷ bare τ4 l12 ∷ bare τ5 l13 ∷ bare τ6 l14 ∷ bare τ7 l15 ∷ []) $ by ! (exits answer related written is-answer (same-related ∙ (same-found ∙ refl)) (same-written ∙ refl) (writes-whole k old new limit count work found explored (needed .0) (needed .1) (needed .2) some-count limit-is total total-is answer plan written is-written))
+          returns-within ! Ends refl (look ! 38 refl) $ released ! (‵ (ShrSlice (named 0) κ-old u8 .own (lentAt b-old o-old γ-old old) (s-old ∷ [])) ∷ ‵ (flft κ-old q-old) ∷ ‵ (ShrSlice (named 1) κ-new u8 .own (lentAt b-new o-new γ-new new) (s-new ∷ [])) ∷ ‵ (flft κ-new q-new) ∷ ‵ (MutSlice (named 2) κ-work Record-row.the-row .own (lentAt b-work o-work γ-work related) (s-work ∷ [])) ∷ ‵ (flft κ-work q-work) ∷ ‵ (MutSlice (named 3) κ-plan u8 .own (lentAt b-plan o-plan γ-plan written) (s-plan ∷ [])) ∷ ‵ (flft κ-plan q-plan) ∷ []) (held Answer-laws.mir l0 (Answer-laws.lowered answer) ∷ bare (tyInt w8) l1 ∷ bare τ0 l2 ∷ bare τ1 l3 ∷ bare τ2 l4 ∷ bare τ3 l5 ∷ bare (tyInt w64) l6 ∷ bare (tyInt w16) l7 ∷ bare (tyInt w64) l8 ∷ bare τ4 l9 ∷ bare τ5 l10 ∷ bare tyBool l11 ∷ bare τ4 l12 ∷ bare τ5 l13 ∷ bare τ6 l14 ∷ bare τ7 l15 ∷ []) $ by ! (exits answer related written is-answer (same-related ∙ (same-found ∙ refl)) (same-written ∙ refl) (writes-whole k old new limit count work found explored old-sheet new-sheet rank some-count limit-is total total-is answer plan written is-written))
 
       part-1 : Sq W (‵ (ShrSlice (named 0) κ-old u8 .own (lentAt b-old o-old γ-old old) (s-old ∷ [])) ∷ ‵ (flft κ-old q-old) ∷ ‵ (ShrSlice (named 1) κ-new u8 .own (lentAt b-new o-new γ-new new) (s-new ∷ [])) ∷ ‵ (flft κ-new q-new) ∷ ‵ (MutSlice (named 2) κ-work Record-row.the-row .own (lentAt b-work o-work γ-work work) (s-work ∷ [])) ∷ ‵ (flft κ-work q-work) ∷ ‵ (MutSlice (named 3) κ-plan u8 .own (lentAt b-plan o-plan γ-plan plan) (s-plan ∷ [])) ∷ ‵ (flft κ-plan q-plan) ∷ empty τ7 l15 (empty τ6 l14 (empty τ5 l13 (empty τ4 l12 (empty tyBool l11 (empty τ5 l10 (empty τ4 l9 (empty (tyInt w64) l8 (empty (tyInt w16) l7 (empty (tyInt w64) l6 (full τ3 l5 (s-plan) (full τ2 l4 (s-work) (full τ1 l3 (s-new) (full τ0 l2 (s-old) (full (tyInt w8) l1 (vint w8 k) (empty Answer-laws.mir l0 ([]))))))))))))))))) (runs (𝓣 .C) (𝓣 .Λ) En this-mir.t-1 (atRet En Ends))
       part-1 =
@@ -121,7 +122,7 @@ module _ {M : Type 1} (𝓤 : URA M) (H : Heap 𝓤) (A : Atoms 𝓤) (W : Given
           assigns ! (addr ! (from ! (fld ! refl (hop ! (look-in ! 30 (sub ! 0 refl (whole !))) (stop !))))) (from ! (stop !)) (init ! 20 refl (tt, tt)) $
           assigns ! (agg ! (and-then ! (load ! (from ! (stop !)) (look ! 20 refl)) (and-then ! (load ! (from ! (fld ! refl (stop !))) (look-in ! 30 (sub ! 1 refl (whole !)))) (no-more !)))) (from ! (stop !)) (init ! 18 refl (tt, (tt, (record { fits = room-work .0 }, tt)))) $
           share ! u8 (named 0) κ-old (lentAt b-old o-old γ-old old) (s-old ∷ []) (move ! (3 ∷ []) $ share ! u8 (named 1) κ-new (lentAt b-new o-new γ-new new) (s-new ∷ []) (move ! (6 ∷ 7 ∷ []) $ lend ! tt Record-row.the-row (named 2) κ-work q-work γ-work b-work o-work (length work) work refl (λ ν-3-work δ-3-work. move ! (7 ∷ 5 ∷ 8 ∷ 3 ∷ 0 ∷ 1 ∷ []) $
-          calls-explore 𝓤 H A W mem run κ-old q-old (lentAt b-old o-old γ-old old) s-old κ-new q-new (lentAt b-new o-new γ-new new) s-new k limit (ν-3-work ∷ []) fullShare (lentAt b-work o-work δ-3-work work) s-work (fmOf 𝓤 H (W .laws) 𝓣) known-explore fits-k fits-limit (needed .0, needed .1, needed .2, limit-few limit (length work) limit-is .0, limit-few limit (length work) limit-is .1)
+          calls-explore 𝓤 H A W mem run κ-old q-old (lentAt b-old o-old γ-old old) s-old κ-new q-new (lentAt b-new o-new γ-new new) s-new k limit (ν-3-work ∷ []) fullShare (lentAt b-work o-work δ-3-work work) s-work (fmOf 𝓤 H (W .laws) 𝓣) known-explore fits-k fits-limit (old-sheet, new-sheet, rank, limit-few limit (length work) limit-is .0, limit-few limit (length work) limit-is .1)
           (and-then ! (load ! (from ! (stop !)) (look ! 32 refl)) (and-then ! (load ! (from ! (stop !)) (look ! 30 refl)) (and-then ! (load ! (from ! (stop !)) (look ! 34 refl)) (and-then ! (load ! (from ! (stop !)) (look ! 24 refl)) (and-then ! (load ! (from ! (stop !)) (look ! 16 refl)) (no-more !)))))) (λ count found fits-count same-found explored.
           move ! (2 ∷ 4 ∷ 3 ∷ []) $ regain ! tt Record-row.the-row (named 2) κ-work q-work γ-work b-work o-work (length work) work refl ν-3-work δ-3-work found room-work same-found (move ! (5 ∷ 2 ∷ 4 ∷ 3 ∷ 0 ∷ 1 ∷ 6 ∷ 7 ∷ []) $ land ! (from ! (stop !)) (init ! 24 refl (tt, record { fits = fits-count })) $
           assigns ! (bin ! (load ! (from ! (stop !)) (look ! 24 refl)) (lit ! tt) tt) (from ! (stop !)) (init ! 16 refl (tt, tt)) $
@@ -138,7 +139,7 @@ module _ {M : Type 1} (𝓤 : URA M) (H : Heap 𝓤) (A : Atoms 𝓤) (W : Given
           (and-then ! (load ! (from ! (stop !)) (look ! 25 refl)) (no-more !)) (λ total fits-total total-is.
           land ! (from ! (stop !)) (store ! 22 refl (tt, record { fits = fits-total })) $
           share ! u8 (named 0) κ-old (lentAt b-old o-old γ-old old) (s-old ∷ []) (move ! (3 ∷ []) $ share ! u8 (named 1) κ-new (lentAt b-new o-new γ-new new) (s-new ∷ []) (move ! (6 ∷ 7 ∷ []) $ lend ! tt Record-row.the-row (named 2) κ-work q-work γ-work b-work o-work (length work) found (same-found ∙ refl) (λ ν-7-work δ-7-work. move ! (9 ∷ 10 ∷ []) $ lend ! tt u8 (named 3) κ-plan q-plan γ-plan b-plan o-plan (length plan) plan refl (λ ν-7-plan δ-7-plan. move ! (10 ∷ 8 ∷ 11 ∷ 6 ∷ 3 ∷ 4 ∷ 0 ∷ 1 ∷ []) $
-          calls-relate 𝓤 H A W mem run k κ-old q-old (lentAt b-old o-old γ-old old) s-old κ-new q-new (lentAt b-new o-new γ-new new) s-new (ν-7-work ∷ []) fullShare (lentAt b-work o-work δ-7-work found) s-work (ν-7-plan ∷ []) fullShare (lentAt b-plan o-plan δ-7-plan plan) s-plan total (fmOf 𝓤 H (W .laws) 𝓣) known-relate fits-k fits-total (work-table k old new limit count work found explored (needed .0) (needed .1) (needed .2) some-count limit-is total total-is)
+          calls-relate 𝓤 H A W mem run k κ-old q-old (lentAt b-old o-old γ-old old) s-old κ-new q-new (lentAt b-new o-new γ-new new) s-new (ν-7-work ∷ []) fullShare (lentAt b-work o-work δ-7-work found) s-work (ν-7-plan ∷ []) fullShare (lentAt b-plan o-plan δ-7-plan plan) s-plan total (fmOf 𝓤 H (W .laws) 𝓣) known-relate fits-k fits-total (work-table k old new limit count work found explored old-sheet new-sheet rank some-count limit-is total total-is)
           (and-then ! (load ! (from ! (stop !)) (look ! 33 refl)) (and-then ! (load ! (from ! (stop !)) (look ! 31 refl)) (and-then ! (load ! (from ! (stop !)) (look ! 29 refl)) (and-then ! (load ! (from ! (stop !)) (look ! 9 refl)) (and-then ! (load ! (from ! (stop !)) (look ! 5 refl)) (and-then ! (load ! (from ! (stop !)) (look ! 19 refl)) (no-more !))))))) (λ answer related written is-answer same-related same-written is-written.
           move ! (2 ∷ 7 ∷ 3 ∷ []) $ regain ! tt Record-row.the-row (named 2) κ-work q-work γ-work b-work o-work (length work) found (same-found ∙ refl) ν-7-work δ-7-work related room-work same-related (move ! (4 ∷ 6 ∷ 5 ∷ []) $ regain ! tt u8 (named 3) κ-plan q-plan γ-plan b-plan o-plan (length plan) plan refl ν-7-plan δ-7-plan written room-plan same-written (move ! (7 ∷ 4 ∷ 6 ∷ 5 ∷ 2 ∷ 3 ∷ 0 ∷ 1 ∷ []) $ land ! (from ! (stop !)) (init ! 38 refl (LL.lawful Answer-row.the-type Answer-laws.the-laws 𝓤 H A W .typed answer _ is-answer .0)) $
           forget ! 36 refl $ forget ! 34 refl $ forget ! 32 refl $ forget ! 30 refl $ forget ! 28 refl $ forget ! 26 refl $ forget ! 24 refl $ forget ! 22 refl $ forget ! 20 refl $ forget ! 18 refl $ forget ! 16 refl $ forget ! 14 refl $ forget ! 12 refl $ forget ! 10 refl $ forget ! 8 refl $ part-8 limit fits-limit limit-is count found fits-count same-found explored some-count total fits-total total-is answer related written is-answer same-related same-written is-written)))))))))))))))
@@ -153,7 +154,7 @@ module _ {M : Type 1} (𝓤 : URA M) (H : Heap 𝓤) (A : Atoms 𝓤) (W : Given
 module _ {M : Type 1} (𝓤 : URA M) (H : Heap 𝓤) (A : Atoms 𝓤) (W : Given 𝓤 H A) (mem : Memory → SProp 𝓤) (run : Routine → Fun 𝓤) where
   connect-checked-walks : (𝓣 : Tables 𝓤 H) → Triple 𝓤 (𝓣 .C #connect·limit-of) (limit-of-contract 𝓤 H A mem run) → Triple 𝓤 (𝓣 .C #reached·explore) (explore-contract 𝓤 H A mem run) → Triple 𝓤 (𝓣 .C #connect·refusal) (refusal-contract 𝓤 H A mem run) → Triple 𝓤 (𝓣 .C #connect·wide) (wide-contract 𝓤 H A mem run) → Triple 𝓤 (𝓣 .C #connect·relate) (relate-contract 𝓤 H A mem run) → Walks 𝓤 H A this.ended stayed (WpFn 𝓤 H (𝓣 .C) (𝓣 .Λ) this-code.function) (this.clauses 𝓤 H A mem run)
   connect-checked-walks 𝓣 known-limit-of known-explore known-refusal known-wide known-relate = walked 𝓤 H A this.ended stayed (this.clauses 𝓤 H A mem run) (WpFn 𝓤 H (𝓣 .C) (𝓣 .Λ) this-code.function)
-      (λ κs. (uint-vals w8, (slice-vals, (slice-vals, (slice-vals, (slice-vals, tt)))))) (λ κs. (uint-tells w8, (shr-slice-tells (named 0) (κs .0) u8, (shr-slice-tells (named 1) (κs .1 .0) u8, (mut-slice-tells (named 2) (κs .1 .1 .0) Record-row.the-row, (mut-slice-tells (named 3) (κs .1 .1 .1 .0) u8, tt)))))) (λ κs qs bounds a g are. needs 𝓤 (IsSheet ((a .1 .0 .now)) × IsSheet ((a .1 .1 .0 .now)) × ((a .0) ≤ 3)) _ (λ needed. walk 𝓤 H A W mem run (a .0) (κs .0) (qs .0) (a .1 .0 .ptr .0) (a .1 .0 .ptr .1) (a .1 .0 .name) (a .1 .0 .now) (κs .1 .0) (qs .1 .0) (a .1 .1 .0 .ptr .0) (a .1 .1 .0 .ptr .1) (a .1 .1 .0 .name) (a .1 .1 .0 .now) (κs .1 .1 .0) (qs .1 .1 .0) (a .1 .1 .1 .0 .ptr .0) (a .1 .1 .1 .0 .ptr .1) (a .1 .1 .1 .0 .name) (a .1 .1 .1 .0 .now) (κs .1 .1 .1 .0) (qs .1 .1 .1 .0) (a .1 .1 .1 .1 .0 .ptr .0) (a .1 .1 .1 .1 .0 .ptr .1) (a .1 .1 .1 .1 .0 .name) (a .1 .1 .1 .1 .0 .now) (are .0 .1) (are .1 .0 .0 .1) (are .1 .1 .0 .0 .1) (are .1 .1 .1 .0 .0 .1) (are .1 .1 .1 .1 .0 .0 .1) needed 𝓣 known-limit-of known-explore known-refusal known-wide known-relate))
+      (λ κs. (uint-vals w8, (slice-vals, (slice-vals, (slice-vals, (slice-vals, tt)))))) (λ κs. (uint-tells w8, (shr-slice-tells (named 0) (κs .0) u8, (shr-slice-tells (named 1) (κs .1 .0) u8, (mut-slice-tells (named 2) (κs .1 .1 .0) Record-row.the-row, (mut-slice-tells (named 3) (κs .1 .1 .1 .0) u8, tt)))))) (λ κs qs bounds a g are. needs-all 𝓤 (IsSheet ((a .1 .0 .now))) ((IsSheet ((a .1 .1 .0 .now))) ∷ ((a .0) ≤ 3) ∷ []) _ (λ needed. walk 𝓤 H A W mem run (a .0) (κs .0) (qs .0) (a .1 .0 .ptr .0) (a .1 .0 .ptr .1) (a .1 .0 .name) (a .1 .0 .now) (κs .1 .0) (qs .1 .0) (a .1 .1 .0 .ptr .0) (a .1 .1 .0 .ptr .1) (a .1 .1 .0 .name) (a .1 .1 .0 .now) (κs .1 .1 .0) (qs .1 .1 .0) (a .1 .1 .1 .0 .ptr .0) (a .1 .1 .1 .0 .ptr .1) (a .1 .1 .1 .0 .name) (a .1 .1 .1 .0 .now) (κs .1 .1 .1 .0) (qs .1 .1 .1 .0) (a .1 .1 .1 .1 .0 .ptr .0) (a .1 .1 .1 .1 .0 .ptr .1) (a .1 .1 .1 .1 .0 .name) (a .1 .1 .1 .1 .0 .now) (are .0 .1) (are .1 .0 .0 .1) (are .1 .1 .0 .0 .1) (are .1 .1 .1 .0 .0 .1) (are .1 .1 .1 .1 .0 .0 .1) (needed .0) (needed .1 .0) (needed .1 .1) 𝓣 known-limit-of known-explore known-refusal known-wide known-relate))
 
   connect-checked-meets : (𝓣 : Tables 𝓤 H) → Triple 𝓤 (𝓣 .C #connect·limit-of) (limit-of-contract 𝓤 H A mem run) → Triple 𝓤 (𝓣 .C #reached·explore) (explore-contract 𝓤 H A mem run) → Triple 𝓤 (𝓣 .C #connect·refusal) (refusal-contract 𝓤 H A mem run) → Triple 𝓤 (𝓣 .C #connect·wide) (wide-contract 𝓤 H A mem run) → Triple 𝓤 (𝓣 .C #connect·relate) (relate-contract 𝓤 H A mem run) → Meets 𝓤 H A this.signature (WpFn 𝓤 H (𝓣 .C) (𝓣 .Λ) this-code.function) (this.spec 𝓤 H A mem run)
   connect-checked-meets 𝓣 known-limit-of known-explore known-refusal known-wide known-relate = walk-meets 𝓤 H A this.ended stayed W (goes-none 𝓤 H A W 4 (λ _. u8) yes (λ κs x f. refl), (goes-none-slice 𝓤 H A W 4 (0 ∷ []) tt (plain (λ _. u8)) yes, (goes-none-slice 𝓤 H A W 4 (1 ∷ []) tt (plain (λ _. u8)) yes, (goes-slice 𝓤 H A W 4 2 tt (plain (λ _. Record-row.the-row)), (goes-slice 𝓤 H A W 4 3 tt (plain (λ _. u8)), tt))))) (this.clauses 𝓤 H A mem run)

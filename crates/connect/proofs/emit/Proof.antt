@@ -146,12 +146,12 @@ module _ {M : Type 1} (𝓤 : URA M) (H : Heap 𝓤) (A : Atoms 𝓤) (W : Given
           assigns ! (agg ! (and-then ! (load ! (from ! (stop !)) (look ! 8 refl)) (and-then ! (load ! (from ! (fld ! refl (stop !))) (look-in ! 38 (sub ! 1 refl (whole !)))) (no-more !)))) (from ! (stop !)) (init ! 6 refl (tt, (tt, (record { fits = room-plan .0 }, tt)))) $
           move ! (2 ∷ 3 ∷ []) $ lend-shared ! tt Record-row.the-row (named 1) κ-work q-work γ-work b-work o-work (length work) ordered (same-ordered ∙ refl) room-work (λ ν-7-work δ-7-work. move ! (5 ∷ 6 ∷ []) $ lend ! tt u8 (named 2) κ-plan q-plan γ-plan b-plan o-plan (length plan) plan refl (λ ν-7-out δ-7-out. move ! (3 ∷ 4 ∷ 0 ∷ 1 ∷ []) $
           calls-write-plan 𝓤 H A W mem run (ν-7-work ∷ []) fullShare (lentAt b-work o-work δ-7-work ordered) s-work count states n k (ν-7-out ∷ []) fullShare (lentAt b-plan o-plan δ-7-out plan) s-plan (fmOf 𝓤 H (W .laws) 𝓣) known-write-plan fits-count fits-states fits-n fits-k (numbered-lists k old count rounds work (needed .1) (needed .2) numbered, numbered-shown k old count rounds work (needed .1) (needed .2) numbered, numbered-states k old count rounds work (needed .1) (needed .2) numbered, plan-fits k old count rounds work (needed .1) (needed .2) numbered size-is plan enough-is has-room n)
-          (and-then ! (load ! (from ! (stop !)) (look ! 9 refl)) (and-then ! (load ! (from ! (stop !)) (look ! 35 refl)) (and-then ! (load ! (from ! (stop !)) (look ! 31 refl)) (and-then ! (load ! (from ! (stop !)) (look ! 27 refl)) (and-then ! (load ! (from ! (stop !)) (look ! 43 refl)) (and-then ! (load ! (from ! (stop !)) (look ! 5 refl)) (no-more !))))))) (λ out7 same-out7 is-written.
-          move ! (0 ∷ 4 ∷ []) $ regain-shared ! tt Record-row.the-row (named 1) κ-work q-work γ-work b-work o-work (length work) ordered (same-ordered ∙ refl) ν-7-work room-work (move ! (2 ∷ 4 ∷ 3 ∷ []) $ regain ! tt u8 (named 2) κ-plan q-plan γ-plan b-plan o-plan (length plan) plan refl ν-7-out δ-7-out out7 room-plan same-out7 (move ! (4 ∷ 5 ∷ 2 ∷ 3 ∷ 0 ∷ 1 ∷ []) $ land ! (from ! (stop !)) (init ! 14 refl (tt, tt)) $
+          (and-then ! (load ! (from ! (stop !)) (look ! 9 refl)) (and-then ! (load ! (from ! (stop !)) (look ! 35 refl)) (and-then ! (load ! (from ! (stop !)) (look ! 31 refl)) (and-then ! (load ! (from ! (stop !)) (look ! 27 refl)) (and-then ! (load ! (from ! (stop !)) (look ! 43 refl)) (and-then ! (load ! (from ! (stop !)) (look ! 5 refl)) (no-more !))))))) (λ written same-written is-written.
+          move ! (0 ∷ 4 ∷ []) $ regain-shared ! tt Record-row.the-row (named 1) κ-work q-work γ-work b-work o-work (length work) ordered (same-ordered ∙ refl) ν-7-work room-work (move ! (2 ∷ 4 ∷ 3 ∷ []) $ regain ! tt u8 (named 2) κ-plan q-plan γ-plan b-plan o-plan (length plan) plan refl ν-7-out δ-7-out written room-plan same-written (move ! (4 ∷ 5 ∷ 2 ∷ 3 ∷ 0 ∷ 1 ∷ []) $ land ! (from ! (stop !)) (init ! 14 refl (tt, tt)) $
           calls-with-counts 𝓤 H A W mem run 0 count states rounds size (fmOf 𝓤 H (W .laws) 𝓣) known-with-counts (lit< tt) fits-count fits-states fits-rounds fits-size (needed .1 .few)
           (and-then ! (lit ! tt) (and-then ! (load ! (from ! (stop !)) (look ! 37 refl)) (and-then ! (load ! (from ! (stop !)) (look ! 33 refl)) (and-then ! (load ! (from ! (stop !)) (look ! 35 refl)) (and-then ! (load ! (from ! (stop !)) (look ! 31 refl)) (no-more !)))))) (λ answer is-answer answer-is.
           land ! (from ! (stop !)) (init ! 46 refl (LL.lawful Answer-row.the-type Answer-laws.the-laws 𝓤 H A W .typed answer _ is-answer .0)) $
-          returns-within ! Ends refl (look ! 46 refl) $ released ! (‵ (ShrSlice (named 0) κ-old u8 .own (lentAt b-old o-old γ-old old) (s-old ∷ [])) ∷ ‵ (flft κ-old q-old) ∷ ‵ (MutSlice (named 1) κ-work Record-row.the-row .own (lentAt b-work o-work γ-work ordered) (s-work ∷ [])) ∷ ‵ (flft κ-work q-work) ∷ ‵ (MutSlice (named 2) κ-plan u8 .own (lentAt b-plan o-plan γ-plan out7) (s-plan ∷ [])) ∷ ‵ (flft κ-plan q-plan) ∷ []) (held Answer-laws.mir l0 (Answer-laws.lowered answer) ∷ held (tyInt w8) l1 (vint w8 k) ∷ held τ0 l2 (s-old) ∷ held τ1 l3 (s-work) ∷ held τ2 l4 (s-plan) ∷ held (tyInt w64) l5 (vint w64 count) ∷ held (tyInt w16) l6 (vint w16 rounds) ∷ held (tyInt w16) l7 (vint w16 states) ∷ held (tyInt w32) l8 (vint w32 size) ∷ held (tyInt w8) l9 (vint w8 n) ∷ held τ3 l10 (vptr b-work o-work) ∷ held τ4 l11 (s-work) ∷ held τ5 l12 (vptr b-work o-work) ∷ held τ6 l13 (s-work) ∷ held tyBool l14 (vbool enough) ∷ held (tyInt w64) l15 (vint w64 (length plan)) ∷ held tyUnit l16 (vunit) ∷ held τ5 l17 (vptr b-work o-work) ∷ held τ6 l18 (s-work) ∷ held τ7 l19 (vptr b-plan o-plan) ∷ held τ8 l20 (s-plan) ∷ []) $ by ! (exits answer ordered out7 is-answer (same-ordered ∙ refl) (same-out7 ∙ refl) (plan-emitted k old count rounds work (needed .1) (needed .2) numbered size-is plan enough-is has-room n-is is-written answer-is)))))))))))
+          returns-within ! Ends refl (look ! 46 refl) $ released ! (‵ (ShrSlice (named 0) κ-old u8 .own (lentAt b-old o-old γ-old old) (s-old ∷ [])) ∷ ‵ (flft κ-old q-old) ∷ ‵ (MutSlice (named 1) κ-work Record-row.the-row .own (lentAt b-work o-work γ-work ordered) (s-work ∷ [])) ∷ ‵ (flft κ-work q-work) ∷ ‵ (MutSlice (named 2) κ-plan u8 .own (lentAt b-plan o-plan γ-plan written) (s-plan ∷ [])) ∷ ‵ (flft κ-plan q-plan) ∷ []) (held Answer-laws.mir l0 (Answer-laws.lowered answer) ∷ held (tyInt w8) l1 (vint w8 k) ∷ held τ0 l2 (s-old) ∷ held τ1 l3 (s-work) ∷ held τ2 l4 (s-plan) ∷ held (tyInt w64) l5 (vint w64 count) ∷ held (tyInt w16) l6 (vint w16 rounds) ∷ held (tyInt w16) l7 (vint w16 states) ∷ held (tyInt w32) l8 (vint w32 size) ∷ held (tyInt w8) l9 (vint w8 n) ∷ held τ3 l10 (vptr b-work o-work) ∷ held τ4 l11 (s-work) ∷ held τ5 l12 (vptr b-work o-work) ∷ held τ6 l13 (s-work) ∷ held tyBool l14 (vbool enough) ∷ held (tyInt w64) l15 (vint w64 (length plan)) ∷ held tyUnit l16 (vunit) ∷ held τ5 l17 (vptr b-work o-work) ∷ held τ6 l18 (s-work) ∷ held τ7 l19 (vptr b-plan o-plan) ∷ held τ8 l20 (s-plan) ∷ []) $ by ! (exits answer ordered written is-answer (same-ordered ∙ refl) (same-written ∙ refl) (plan-emitted k old count rounds work (needed .1) (needed .2) numbered size-is plan enough-is has-room n-is is-written answer-is)))))))))))
           (λ lacks-room. calls-with-counts 𝓤 H A W mem run 13 count states rounds 0 (fmOf 𝓤 H (W .laws) 𝓣) known-with-counts (lit< tt) fits-count fits-states fits-rounds (lit< tt) (needed .1 .few)
           (and-then ! (lit ! tt) (and-then ! (load ! (from ! (stop !)) (look ! 37 refl)) (and-then ! (load ! (from ! (stop !)) (look ! 33 refl)) (and-then ! (load ! (from ! (stop !)) (look ! 35 refl)) (and-then ! (lit ! tt) (no-more !)))))) (λ answer is-answer answer-is.
           land ! (from ! (stop !)) (init ! 46 refl (LL.lawful Answer-row.the-type Answer-laws.the-laws 𝓤 H A W .typed answer _ is-answer .0)) $
