@@ -1,8 +1,8 @@
 """A call in a walk."""
-import sys
 
 from walking.code import items
 from walking.contracts import Signature
+from walking.refusal import refuse
 from walking.state import Local
 from walking.text import par
 
@@ -13,6 +13,8 @@ class Calling:
     def call(self, s, st, last, on):
         crate, _, name = s[1][1][1].partition('::')
         g = Signature(crate, name)
+        if g.antt() in [h.antt() for key, h in self.callees.items() if key != g.key()]:
+            refuse(f'two callees are called {g.antt()}: give one of them another name')
         self.callees[g.key()] = g
         self.values.append(g.result)
         unit = g.result.name == '()'
@@ -32,7 +34,7 @@ class Calling:
             i = f'{n}-{p.plain}'
             if what.kind in ('rest', 'front'):
                 if not p.mut:
-                    sys.exit('walk: a part of a slice is lent as `&`: lend it as `&mut`')
+                    refuse('a part of a slice is lent as `&`: lend it as `&mut`')
                 text += st.front(('own', ref.name), ('tok', ref.name))
                 text += f'lend-{what.kind} {self.rest(st, what)} (λ ν-{i} δ-{i}. '
                 st.labels[:2] = [('lt', i), ('lo', i), ('kept', i)]
@@ -88,7 +90,7 @@ class Calling:
             st.bound.append((f'same-{new[p.name]}', f'length {new[p.name]} ≡ length {entry[p.name]}'))
         st.bound += [(fact, g.said(c, entry, new, values, res)) for fact, c in zip(facts, g.gives)]
         if len(set(names + hyps)) != len(names + hyps):
-            sys.exit(f'walk: a name stands twice among {" ".join(names + hyps)}')
+            refuse(f'a name stands twice among {" ".join(names + hyps)}')
         self.bound_names |= set(names + hyps)
         text += f'calls-{g.antt()}{"-last" if last else ""} 𝓤 H A W mem run {"".join(x + " " for x in given)}(fmOf 𝓤 H (W .laws) 𝓣) known-{g.antt()} {"".join(x + " " for x in proofs)}{nl}({operands}) (λ {" ".join(names + hyps)}.{nl}'
         close += ')'

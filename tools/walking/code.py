@@ -2,7 +2,8 @@
 import functools
 import re
 import subprocess
-import sys
+
+from walking.refusal import refuse
 
 
 def parse(text):
@@ -79,5 +80,5 @@ def code_of(crate):
     out = subprocess.run(['rt', 'mir', crate], capture_output=True, text=True).stdout
     line = [t for t in out.splitlines() if t.startswith('program')]
     if not line:
-        sys.exit(f'walk: no code of {crate}: {out}')
+        refuse(f'no code of {crate}: {out}')
     return {f[1]: f[2] for f in items(parse(line[0])[1]) if len(f) > 2}

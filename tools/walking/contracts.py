@@ -1,11 +1,11 @@
 """The functions of a crate with their contracts, as its src has them, and the types of their values."""
 import functools
 import re
-import sys
 from collections import namedtuple
 from pathlib import Path
 
 from walking.names import taken
+from walking.refusal import refuse
 
 
 def words_of(text):
@@ -20,6 +20,10 @@ def joined(ws):
 CLAUSE = re.compile(r'\s*(requires|ensures)(?: (\w+))? \{\s*(?:λ (\S+?)\. )?⌜ (.*?) ⌝\s*\}', re.S)
 # of `requires` or `ensures`; its name, if it has one; the result's name in it; what it says
 Clause = namedtuple('Clause', 'kind name bound fact')
+
+
+# a function's parameters, each a name and a type; its result, its clauses, its file, and what the words in that file are imported from
+Function = namedtuple('Function', 'params result needs gives file uses')
 
 
 def clauses(text):
@@ -50,15 +54,17 @@ class Source:
 
     def __init__(self, crate):
         self.crate = crate
-        self.uses, self.structs, self.modules, self.functions, self.public = {}, {}, {}, {}, set()
+        self.structs, self.modules, self.functions = {}, {}, {}
         for file in sorted(Path('crates', crate, 'src').glob('*.rt')):
-            self.read(with_numbers(re.sub(r'//.*', '', file.read_text()), crate), '' if file.stem == 'lib' else file.stem + '::')
+            self.read(file.name, file.read_text())
 
-    def read(self, text, inside):
+    def read(self, file, text):
+        text, uses = with_numbers(re.sub(r'//.*', '', text), self.crate), {}
+        inside = '' if file == 'lib.rt' else file.removesuffix('.rt') + '::'
         for module, names in re.findall(r'ghost use ([^;{]+)\.\{([^}]*)\};', text):
             module = re.sub(r'Rattle·(\w+)·specs\.specs', r'Rattle·\1.specs', module.strip())
             for n in names.split(','):
-                self.uses[n.strip()] = module
+                uses[n.strip()] = module
         for name, body in re.findall(r'struct (\w+) \{([^}]*)\}', text):
             self.structs[name] = re.findall(r'pub (\w+): ([^,]+),', body + ',')
             self.modules[name] = inside.replace('::', '.')
@@ -66,8 +72,6 @@ class Source:
         for m in re.finditer(r'^( *)(?:pub )?(?:extern "C" )?fn (\w+)\(([^)]*)\)(?: -> ([\w:\[\]; ]+?))?\s*(?=[{]|requires|ensures)', text, re.M):
             owner = [t for at, t in marks if at < m.start()]
             name = inside + (f'{owner[-1]}::{m.group(2)}' if m.group(1) and owner else m.group(2))
-            if m.group(0).split('fn ')[0].strip() == 'pub':
-                self.public.add(name)
             params = []
             for p in filter(None, (p.strip() for p in m.group(3).split(','))):
                 if p == 'self':
@@ -76,7 +80,7 @@ class Source:
                     params.append(tuple(x.strip() for x in p.split(':', 1)))
             params = [(a, re.sub(r'\s+', ' ', b)) for a, b in params]
             needs, gives = clauses(text[m.end():])
-            self.functions[name] = (params, (m.group(4) or '()').strip(), needs, gives)
+            self.functions[name] = Function(params, (m.group(4) or '()').strip(), needs, gives, file, uses)
 
 
 sources = {}
@@ -196,19 +200,22 @@ class Table(Param):
 
 class Signature:
     def __init__(self, crate, name):
-        params, result, needs, gives = source(crate).functions[name]
         self.crate, self.name = crate, name
-        self.params = [Param(crate, n, t) for n, t in params]
-        self.result = Value(crate, result)
+        if name not in source(crate).functions:
+            refuse(f'crates/{crate}/src has no function {name}')
+        f = source(crate).functions[name]
+        self.file, self.uses = f.file, f.uses
+        self.params = [Param(crate, n, t) for n, t in f.params]
+        self.result = Value(crate, f.result)
         self.refs = [p for p in self.params if p.slice]
-        if not gives:
-            sys.exit(f'walk: {name} has no clause `ensures`')
-        self.needs, self.gives = self.named(needs), self.named(gives)
+        if not f.gives:
+            refuse(f'{name} has no clause `ensures`')
+        self.needs, self.gives = self.named(f.needs), self.named(f.gives)
 
     def named(self, clauses):
         """Clauses with their names as a walk has them; one alone needs none."""
         if len(clauses) > 1 and not all(c.name for c in clauses):
-            sys.exit(f'walk: {self.name} has several clauses `{clauses[0].kind}`: each needs a name')
+            refuse(f'{self.name} has several clauses `{clauses[0].kind}`: each needs a name')
         return [c._replace(name=c.name and c.name.replace('_', '-')) for c in clauses]
 
     def index(self, p):
@@ -228,14 +235,9 @@ class Signature:
         path = self.name.replace('::', '.')
         return f'Rattle.{crate}.proofs.{path}' if self.crate == crate else f'Rattle.{self.crate}.proofs.{path}'
 
-    # the module of the step of a call of it, in a walk of the crate, and the file if that is the crate's own
-    def step(self, crate):
-        name = ''.join(x.capitalize() for x in re.split(r'_|::', self.name))
-        if self.crate != crate:
-            if Path('crates', self.crate, 'proofs', 'calls', name + '.antt').exists():
-                return f'Rattle.{self.crate}.proofs.calls.{name}', None
-            name = self.crate.capitalize() + name
-        return f'Rattle.{crate}.proofs.calls.{name}', name
+    # the name of the step of a call of it, which stands beside it
+    def step(self):
+        return ''.join(x.capitalize() for x in re.split(r'_|::', self.name))
 
     def said(self, clause, entry, end, values, result=None):
         """A clause with its words for parameters and result replaced."""
@@ -256,7 +258,6 @@ class Signature:
                 out.append(result)
                 i += 1
             else:
-                uses = source(self.crate).uses
-                out.append(ws[i] + '′' if ws[i] in uses and taken(ws[i], uses[ws[i]]) else ws[i])
+                out.append(ws[i] + '′' if ws[i] in self.uses and taken(ws[i], self.uses[ws[i]]) else ws[i])
                 i += 1
         return joined(out)

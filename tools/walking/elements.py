@@ -1,8 +1,8 @@
 """An element of a slice of records in a walk, and an item of an array that is a field of one: read and written in place."""
-import sys
 
 from walking.code import items, statements
 from walking.contracts import Value, source
+from walking.refusal import refuse
 from walking.state import Local
 from walking.text import par
 
@@ -36,13 +36,13 @@ class Elements:
         k, m = int(place[1]), int(items(place[2])[1][1])
         c = self.cell(st, k)
         if c.kind != 'element':
-            sys.exit('walk: a field behind a pointer that is to no element of a slice')
+            refuse('a field behind a pointer that is to no element of a slice')
         v = c.ref.value
         what = Local('field', ref=c.ref)
         what.element, what.number, what.start = c, m, f'fieldStart {v.struct}-row.the-type {m}'
         what.name, array = source(v.crate).structs[v.struct][m]
         if not array.startswith('['):
-            sys.exit(f'walk: the field {what.name} is no array: read it in a covered function')
+            refuse(f'the field {what.name} is no array: read it in a covered function')
         inner, what.length = array[1:-1].replace(' ', '').split(';')
         what.value = Value(v.crate, inner)
         return f'addr ! (from ! (hop ! (look ! {st.pos(("cell", k))} refl) (fld ! refl (stop !))))', what, None
@@ -51,7 +51,7 @@ class Elements:
         """Of a pointer to an element: the slice's list, the element, and the arguments of the steps of Elements."""
         ref = c.ref
         if c.kind != 'element':
-            sys.exit('walk: a byte of a slice: read and write it in a covered function')
+            refuse('a byte of a slice: read and write it in a covered function')
         term, long = st.lists[ref.name]
         v = ref.value
         return term, f'(getD {term} {c.term} blank)', f'{par(v.row)} {v.struct}-laws.lowered (named {self.f.lifetime(ref)}) {ref.kappa} {ref.share} {ref.ghost} {ref.block} {ref.offset} {par(ref.count)} {term} {long} {ref.room} {c.term} blank {par(c.within)}'
@@ -78,7 +78,7 @@ class Elements:
         c = self.cell(st, j)
         ref, v = c.ref, c.ref.value
         if ref.mut:
-            sys.exit('walk: an element of a `&mut` slice is read: load it through a `&`')
+            refuse('an element of a `&mut` slice is read: load it through a `&`')
         _, y, args = self.element(st, c.field.element if c.kind == 'item' else c)
         n = self.fresh()
         text = st.front(('own', ref.name), ('tok', ref.name))

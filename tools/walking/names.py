@@ -1,4 +1,5 @@
 """The names that walks share, and whether a contract's word is one of them."""
+import functools
 import re
 from pathlib import Path
 
@@ -14,6 +15,7 @@ def proofs_of(owner, crate):
     return f'Rattle.{owner}.proofs' if crate == owner else f'Rattle.{owner}.proofs'
 
 
+@functools.cache
 def library():
     """The names that the shared modules pass on or declare, each module with the module that a name comes from."""
     out = []

@@ -1,5 +1,7 @@
 """The page of facts of a walk."""
-import sys
+import itertools
+
+from walking.refusal import refuse
 
 
 class Entry:
@@ -17,9 +19,9 @@ class Entry:
     def one(self, key, default=None):
         found = self.all(key)
         if len(found) > 1:
-            sys.exit(f'walk: the page\'s entry "{self}" has "{key}" more than once')
+            refuse(f'the page\'s entry "{self}" has "{key}" more than once')
         if not found and default is None:
-            sys.exit(f'walk: the page\'s entry "{self}" lacks "{key}"')
+            refuse(f'the page\'s entry "{self}" lacks "{key}"')
         return found[0] if found else default
 
     def each(self, key, clauses, default=None):
@@ -30,19 +32,25 @@ class Entry:
         for text in self.all(key):
             name, _, text = text.partition(' ')
             if name not in [c.name for c in clauses] or name in found or not text:
-                sys.exit(f'walk: the page\'s entry "{self}" has "{key} {name}": the clauses are {" ".join(c.name for c in clauses)}')
+                refuse(f'the page\'s entry "{self}" has "{key} {name}": the clauses are {" ".join(c.name for c in clauses)}')
             found[name] = text.strip()
         for c in clauses:
             if c.name not in found and default is None:
-                sys.exit(f'walk: the page\'s entry "{self}" lacks "{key} {c.name}"')
+                refuse(f'the page\'s entry "{self}" lacks "{key} {c.name}"')
         return [found.get(c.name, f'{default}-{c.name}') for c in clauses]
 
 
 class Page:
+    """A page: its story, the laws that it cites, and its entries."""
+
     def __init__(self, text):
         self.uses, self.entries = [], []
-        for line in text.splitlines():
-            if not line.strip() or line.startswith('#'):
+        lines = text.splitlines()
+        self.story = [line[1:].strip() for line in itertools.takewhile(lambda line: line.startswith('#'), lines)]
+        if not any(self.story):
+            refuse('the page has no story on top: lines that begin with # and say how the argument goes')
+        for line in lines[len(self.story):]:
+            if not line.strip():
                 continue
             if line.startswith('use '):
                 self.uses.append(line)
@@ -51,7 +59,7 @@ class Page:
             if not line.startswith(' '):
                 self.entries.append(Entry(head, rest.strip()))
             elif not self.entries:
-                sys.exit(f'walk: the page has a line that belongs to no entry: {line.strip()}')
+                refuse(f'the page has a line that belongs to no entry: {line.strip()}')
             elif not line.startswith('      '):
                 self.entries[-1].lines.append((head, rest.strip()))
             elif self.entries[-1].lines:
@@ -64,12 +72,12 @@ class Page:
     def take(self, kind, what='', *keys):
         """The next entry, which has to be of this kind and can have these keys."""
         if self.next == len(self.entries):
-            sys.exit(f'walk: the page ends, and the code goes on with: {kind} {what}')
+            refuse(f'the page ends, and the code goes on with: {kind} {what}')
         entry = self.entries[self.next]
         if entry.head != kind or (what and entry.text != what):
-            sys.exit(f'walk: the page has "{entry}" where the code has: {kind} {what}')
+            refuse(f'the page has "{entry}" where the code has: {kind} {what}')
         for key, _ in entry.lines:
             if key not in keys:
-                sys.exit(f'walk: the page\'s entry "{entry}" has "{key}", which it cannot have')
+                refuse(f'the page\'s entry "{entry}" has "{key}", which it cannot have')
         self.next += 1
         return entry

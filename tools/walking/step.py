@@ -1,10 +1,10 @@
 """The step of a call, as a module that walks share."""
 
-from walking.text import PREAMBLE, Stack, chain, clause_uses, imports, listed, merged, par, path, shown, slice_row
+from walking.text import GENERATED, PREAMBLE, Stack, chain, clause_uses, commented, imports, listed, merged, par, path, shown, slice_row
 
 
-def call_step(g, crate):
-    antt = g.antt()
+def call_step(g):
+    antt, crate = g.antt(), g.crate
     big = f'{antt}-contract'
     contract = f'{big} 𝓤 H A mem run'
     tele = []
@@ -136,5 +136,5 @@ module _ {PREAMBLE} {' '.join(tele)} where
           calls-at-last ! fm· ({contract}) known· bound operands· (λ w·. after (λ u·. settles E· d· u· p·) (λ u·. tt) k· w·)
 '''
     more = merged({f'{g.module(crate)} as callee': None, f'{g.module(crate)}.Symbol': {f'name as {g.key()}'}}, clause_uses(g, crate), *[p.value.uses(crate) for p in g.params], g.result.uses(crate))
-    text = f'-- The step of a call of `{g.crate}::{g.name}` in a walk. Written by tools/walk.\n-- Assumes nothing.\n'
-    return text + imports(body, crate, more) + '\n' + body
+    head = [f'{GENERATED} from the contract of `{g.name}` in src/{g.file}: change that contract.', f'The step of a call of `{g.crate}::{g.name}` in a walk.', 'Assumes nothing.']
+    return commented(head) + imports(body, crate, more) + '\n' + body

@@ -1,8 +1,8 @@
 """Statements of a walk."""
-import sys
 
 from walking.code import items, operand_text, statements
 from walking.contracts import Value, source
+from walking.refusal import refuse
 from walking.state import Local
 from walking.text import listed, par, tupled
 
@@ -22,7 +22,7 @@ class Steps:
     def cell(self, st, k):
         c = st.cells[k]
         if c is None:
-            sys.exit(f'walk: local {k} is read and holds nothing')
+            refuse(f'local {k} is read and holds nothing')
         return c
 
     def read(self, st, o, shift=0):
@@ -51,9 +51,9 @@ class Steps:
             fv = Value(v.crate, ft)
             proof = f'(LL.lawful {v.struct}-row.the-type {v.struct}-laws.the-laws 𝓤 H A W .typed {c.term} _ {c.proof} .0 .1{" .1" * m} .0 .fits)'
             if not fv.width and fv.name != 'bool':
-                sys.exit(f'walk: the field {field} is no number: read it in a covered function')
+                refuse(f'the field {field} is no number: read it in a covered function')
             return text, Local('value', fv, f'({c.term} .{field})', proof)
-        sys.exit(f'walk: an operand that is not covered: {operand_text(o)}')
+        refuse(f'an operand that is not covered: {operand_text(o)}')
 
     def write(self, st, k, what):
         at = st.pos(('cell', k))
@@ -104,7 +104,7 @@ class Steps:
             return self.branch(stmts, i, st, after)
         if head == 'block' and s[1][0] == 'loop':
             return self.loop(stmts, i, st)
-        sys.exit(f'walk: a statement that is not covered: {s}')
+        refuse(f'a statement that is not covered: {s}')
 
     def part(self, i, st, after):
         """The rest of the body from statement i on as a lemma of its own."""
@@ -141,12 +141,12 @@ part-{n} {names}=
         if rv[0] == 'aggregate':
             parts = [self.read(st, o) for o in items(rv[1])]
             if len(parts) != 2 or parts[0][1].kind not in ('first', 'place'):
-                sys.exit('walk: a struct is made: make it in a covered function')
+                refuse('a struct is made: make it in a covered function')
             text = ''.join(f'and-then ! ({t}) (' for t, _ in parts) + 'no-more !' + ')' * len(parts)
             if parts[0][1].kind == 'place':
                 ref, term = parts[0][1].ref, parts[0][1].term
                 if parts[1][1].term != f'({par(ref.count)} - {term})':
-                    sys.exit(f'walk: a part of a slice that is not its rest: {parts[1][1].term}')
+                    refuse(f'a part of a slice that is not its rest: {parts[1][1].term}')
                 return f'agg ! ({text})', Local('rest', None, term, parts[1][1].within, ref), None
             ref, size = parts[0][1].ref, parts[1][1]
             if size.term != par(ref.count):
@@ -188,7 +188,7 @@ part-{n} {names}=
             if op == 'offset' and a.ref.value.name == 'u8':
                 return f'bin ! ({ta}) ({tb}) tt', Local('place', None, b.term, '', a.ref), None
             if op == 'offset' and rv[3][0] == 'int':
-                sys.exit('walk: an element or an item at a number that is written out: take the index as a parameter')
+                refuse('an element or an item at a number that is written out: take the index as a parameter')
             if op == 'offset':
                 what = Local('item' if a.kind == 'field' else 'element', None, b.index.term, b.size, a.ref)
                 what.within, what.field = b.within, a
@@ -198,7 +198,7 @@ part-{n} {names}=
                     n = st.pos(('cell', k))
                     return f'rewrite ! {n} (λ (p : ℕ). ‵ (fat fullShare tyPtr l{k} 0 (vptr {a.ref.block} p))) (sym (place-is {b.size} {start} {what.term})) refl $\n        '
                 return f'bin ! ({ta}) ({tb}) tt', what, place
-        sys.exit(f'walk: a right side that is not covered: {rv}')
+        refuse(f'a right side that is not covered: {rv}')
 
     def branch(self, stmts, i, st, after):
         s = stmts[i]
@@ -237,7 +237,7 @@ part-{n} {names}=
             _, stmts, i, beyond = after
             if stmts is not self.body:
                 if beyond[0] != 'turn':
-                    sys.exit('walk: an arm inside an arm that does not return: put the choice into a covered function')
+                    refuse('an arm inside an arm that does not return: put the choice into a covered function')
                 return f'exec ! (𝓣 .C) (𝓣 .Λ) En ({self.code(stmts[i:])}) (anyQ (Turned {beyond[1]["here"]})) ${nl}' + self.run(stmts, i, st, beyond)
             return f'exec ! (𝓣 .C) (𝓣 .Λ) En this-mir.t-{i + 1} (atRet En Ends) ${nl}' + self.run(stmts, i, st, beyond)
         # a turn's end
@@ -264,7 +264,7 @@ part-{n} {names}=
         gives = self.f.gives
         page = self.page.take('return', '', *([c.name for c in gives] if len(gives) > 1 else []))
         if len(gives) > 1 and page.text:
-            sys.exit(f'walk: the page has "{page}": the clauses are {" ".join(c.name for c in gives)}, with a line for each')
+            refuse(f'the page has "{page}": the clauses are {" ".join(c.name for c in gives)}, with a line for each')
         proofs = [page.one(c.name) for c in gives] if len(gives) > 1 else [page.text]
         c = self.cell(st, 0)
         text, close = self.close_tables(st)

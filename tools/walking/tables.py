@@ -1,7 +1,7 @@
 """A table of records in a local in a walk: made, lent from there on as a `&mut` slice, and given back at a return."""
-import sys
 
 from walking.contracts import Table
+from walking.refusal import refuse
 from walking.text import par
 
 
@@ -12,7 +12,7 @@ class Tables:
         for p in st.refs:
             if p.local == k:
                 return p
-        sys.exit(f'walk: the address of local {k} is taken: only a table that `[x; n]` makes of records is lent')
+        refuse(f'the address of local {k} is taken: only a table that `[x; n]` makes of records is lent')
 
     def makes(self, s, st, step, on):
         """`[x; n]` into a local: the table is lent from here on."""
@@ -20,7 +20,7 @@ class Tables:
         to, what = self.read(st, s[2][1])
         v = what.value
         if v.width or v.name in ('bool', '()') or v.name.startswith('['):
-            sys.exit('walk: an array that is not one of records: make it in a covered function')
+            refuse('an array that is not one of records: make it in a covered function')
         name = self.page.take('table').text
         ref = Table(name, v, k, n)
         self.rooms.append(f'{ref.room} : Room {par(v.row)} {n}\n{ref.room} = (lit< tt, lit< tt)\n\n')

@@ -1,8 +1,8 @@
 """Types, contexts and code as antt terms."""
-import sys
 
 from walking.code import items, statements
 from walking.contracts import Signature, Value
+from walking.refusal import refuse
 from walking.text import listed, par, slice_row
 
 
@@ -35,7 +35,7 @@ class Terms:
             return f'tyArray ({self.ty(t[1], behind)}) {t[2][1]}'
         if t[0] == 'tyStruct' and t[1] == '&[]':
             return f'sliceTy ({self.ty(t[2][1])})'
-        sys.exit(f'walk: a local of a type that is not covered: {t}')
+        refuse(f'a local of a type that is not covered: {t}')
 
     def name_types(self):
         """Names for the types of locals that take more than a word."""
@@ -109,7 +109,7 @@ class Terms:
             return f'cond· ({self.operand(s[1])}) ({self.code(statements(s[2]))}) ({self.code(statements(s[3]))})'
         if s[0] == 'exit':
             return f'exit· {s[1]}'
-        sys.exit(f'walk: a statement that is not covered: {s}')
+        refuse(f'a statement that is not covered: {s}')
 
     def spot(self, p):
         return f'place· {p[1]} ({listed(f"field· {x[1]}" if x[0] == "field" else f"deref· ({self.ty(x[1], True)})" for x in items(p[2]))})'
@@ -131,4 +131,4 @@ class Terms:
             return f'addrOf· ({self.spot(rv[1])})'
         if rv[0] == 'aggregate':
             return f'aggregate· ({listed(self.operand(o) for o in items(rv[1]))})'
-        sys.exit(f'walk: a right side that is not covered: {rv}')
+        refuse(f'a right side that is not covered: {rv}')

@@ -1,21 +1,20 @@
 """The walk of a function, as its proof file."""
 import re
-import sys
 from pathlib import Path
 
 from walking.calling import Calling
 from walking.code import code_of, items, statements
-from walking.contracts import Signature, source
+from walking.contracts import Signature
 from walking.elements import Elements
 from walking.looping import Looping
 from walking.names import TABLE, library, proofs_of
 from walking.page import Page
+from walking.refusal import refuse
 from walking.state import Local, State
-from walking.step import call_step
 from walking.steps import Steps
 from walking.tables import Tables
 from walking.terms import Terms
-from walking.text import PREAMBLE, Stack, chain, clause_uses, imports, indent, listed, merged, par, path, shown, slice_row
+from walking.text import GENERATED, PREAMBLE, Stack, chain, clause_uses, commented, imports, indent, listed, merged, par, path, shown, slice_row
 
 
 class Walk(Steps, Elements, Tables, Calling, Looping, Terms):
@@ -25,12 +24,13 @@ class Walk(Steps, Elements, Tables, Calling, Looping, Terms):
         self.crate, self.name = crate, name
         code = code_of(crate)
         if f'{crate}::{name}' not in code:
-            sys.exit(f'walk: {crate} has no function {name}')
+            refuse(f'{crate} has no function {name}')
         item = code[f'{crate}::{name}']
         self.f = Signature(crate, name)
         self.locals = [x[1] for x in items(item[4])]
         self.body = statements(item[5])
-        self.page = Page(Path('crates', crate, 'walks', name.replace('::', '/') + '.walk').read_text())
+        self.file = name.replace('::', '/')
+        self.page = Page(Path('crates', crate, 'walks', self.file + '.walk').read_text())
         self.callees, self.values, self.count = {}, [p.value for p in self.f.params] + [self.f.result], 0
         self.lemmas, self.heads, self.rooms, self.has_loop, self.bound_names = [], [], [], False, set()
 
@@ -38,7 +38,8 @@ class Walk(Steps, Elements, Tables, Calling, Looping, Terms):
         self.count += 1
         return self.count
 
-    def write_proof(self):
+    def proof(self):
+        """The text of the proof file."""
         f = self.f
         n = len(self.locals)
         st = State(self)
@@ -70,13 +71,13 @@ class Walk(Steps, Elements, Tables, Calling, Looping, Terms):
         type_names = self.name_types()
         script = self.part(0, st, None)
         if self.page.next != len(self.page.entries):
-            sys.exit(f'walk: the page goes on after the code has ended: {self.page.entries[self.page.next][0]}')
+            refuse(f'the page goes on after the code has ended: {self.page.entries[self.page.next]}')
         needed = [c.name or 'needed' for c in f.needs]
         taken = {n for _, names in library() for n in names}
         taken |= {'args', 'Args', 'machine', 'Ends', 'En', 'State', 'measure', 'Nearer', 'head', 'At', 'Turned', 'turn', 'turns', 'walk', 'exits', 'stayed'}
         for x in {p.name for p in f.params} | set(needed) | self.bound_names:
             if x in taken:
-                sys.exit(f'walk: {x} is a name of the logic: choose another')
+                refuse(f'{x} is a name of the logic: choose another')
         slots = ['stay-slice' if p.mut else 'stay-none-slice' if p.slice else 'stay-none' for p in f.params]
         stays = [f'{s} ({f.lifetime(p)} ∷ []) tt (plain (λ _. {p.value.row}))' + ('' if p.mut else ' yes') if p.slice else f'{s} (λ _. {p.value.row}) yes' for p, s in zip(f.params, slots)]
         count = len(f.refs)
@@ -215,28 +216,12 @@ unfolding this-code.routine tablesOf
         for g in self.callees.values():
             big = f'{g.antt()}-contract'
             m = g.module(self.crate)
-            more.append({g.step(self.crate)[0]: {big, f'calls-{g.antt()}', f'calls-{g.antt()}-last'}, f'{m}.Symbol as {g.antt()}-def': None, f'{m}.Symbol': {f'name as {g.key()}'}, f'{m}.Met as {g.antt()}-thm': None})
+            more.append({f'{proofs_of(g.crate, self.crate)}.calls.{g.step()}': {big, f'calls-{g.antt()}', f'calls-{g.antt()}-last'}, f'{m}.Symbol as {g.antt()}-def': None, f'{m}.Symbol': {f'name as {g.key()}'}, f'{m}.Met as {g.antt()}-thm': None})
             more.append(clause_uses(g, self.crate))
         for u in self.page.uses:
             m = re.match(r'use ([^{]+)\.\{(.*)\}$', u)
             more.append({m.group(1): set(x.strip() for x in m.group(2).split(','))})
         more += [{'lib.ListN': {'replicate'}}, clause_uses(f, self.crate)] + [v.uses(self.crate) for v in self.values]
         more.append({f'{proofs_of(TABLE, self.crate)}.Records': {'offset-fits'}})
-        file = self.name.replace('::', '/')
-        text = f'-- `{self.crate}::{self.name}` meets its contract: a walk of its code, written by tools/walk from walks/{file}.walk.\n-- Assumes nothing.\n'
-        target = Path('crates', self.crate, 'proofs', file, 'Proof.antt')
-        target.parent.mkdir(parents=True, exist_ok=True)
-        target.write_text(text + imports(body, self.crate, merged(*more)) + '\n' + body)
-        calls = Path('crates', self.crate, 'proofs', 'calls')
-        for g in [*self.callees.values(), f]:
-            name = g.step(self.crate)[1]
-            # of a function that only its own crate can call, the caller's walk writes the step
-            if not name or g is f and f.name not in source(self.crate).public and not (calls / (name + '.antt')).exists():
-                continue
-            calls.mkdir(exist_ok=True)
-            (calls / (name + '.antt')).write_text(call_step(g, self.crate))
-        if calls.exists():
-            calls.with_suffix('.antt').write_text(''.join(f'pub mod {file.stem}\n' for file in sorted(calls.glob('*.antt'))))
-            lib = calls.with_name('Lib.antt')
-            if 'pub mod calls' not in lib.read_text().splitlines():
-                lib.write_text(lib.read_text() + 'pub mod calls\n')
+        head = [f'{GENERATED} from walks/{self.file}.walk: change that page.', *self.page.story, 'Assumes nothing.']
+        return commented(head) + imports(body, self.crate, merged(*more)) + '\n' + body

@@ -6,3 +6,4 @@ pub mod Trailer
 pub mod Stands
 pub mod Front
 pub mod Written
+pub mod calls

@@ -1,0 +1,113 @@
+"""The files that pages yield: the proofs, and the steps of calls, each beside its callee."""
+import subprocess
+import tempfile
+from pathlib import Path
+
+from walking.refusal import Refusal, refuse
+from walking.step import call_step
+from walking.text import GENERATED, commented
+from walking.walk import Walk
+
+ATTRIBUTES = Path('.gitattributes')
+
+
+def pages(crate):
+    """The functions of a crate that have a page."""
+    walks = Path('crates', crate, 'walks')
+    return ['::'.join(file.relative_to(walks).with_suffix('').parts) for file in sorted(walks.rglob('*.walk'))]
+
+
+def all_pages():
+    return [(walks.parent.name, name) for walks in sorted(Path('crates').glob('*/walks')) for name in pages(walks.parent.name)]
+
+
+def proof_file(crate, name):
+    return Path('crates', crate, 'proofs', *name.split('::'), 'Proof.antt')
+
+
+def yielded(wanted):
+    """What pages yield: text by file."""
+    texts = {}
+    for crate, name in wanted:
+        try:
+            walk = Walk(crate, name)
+            texts[proof_file(crate, name)] = walk.proof()
+            for g in walk.callees.values():
+                file = Path('crates', g.crate, 'proofs', 'calls', g.step() + '.antt')
+                if file not in texts:
+                    texts[file] = call_step(g)
+        except Refusal as why:
+            refuse(f'crates/{crate}/walks/{name.replace("::", "/")}.walk: {why}')
+    return formatted(texts)
+
+
+def formatted(texts):
+    """Texts as `rt fmt` leaves them."""
+    with tempfile.TemporaryDirectory() as folder:
+        for file, text in texts.items():
+            (folder / file).parent.mkdir(parents=True, exist_ok=True)
+            (folder / file).write_text(text)
+        Path(folder, 'crates.txt').write_text(''.join(f'{crate}:\n' for crate in sorted({file.parts[1] for file in texts})))
+        subprocess.run(['rt', 'fmt'], cwd=folder, check=True)
+        return {file: (folder / file).read_text() for file in texts}
+
+
+def lists(steps):
+    """The files that list steps: of each crate its `calls.antt`, and the line for that in its `Lib.antt`."""
+    texts = {}
+    for lib in sorted(Path('crates').glob('*/proofs/Lib.antt')):
+        lines = [line for line in lib.read_text().splitlines() if line != 'pub mod calls']
+        names = sorted(file.stem for file in steps if file.parent == lib.with_name('calls'))
+        if names:
+            lines.append('pub mod calls')
+            texts[lib.with_name('calls.antt')] = commented([f'{GENERATED}: the steps of calls.']) + ''.join(f'pub mod {name}\n' for name in names)
+        texts[lib] = ''.join(f'{line}\n' for line in lines)
+    return texts
+
+
+def attributes():
+    """The marks of generated files for git."""
+    files = ['crates/*/proofs/calls.antt', 'crates/*/proofs/calls/*.antt'] + [str(proof_file(*page)) for page in all_pages()]
+    return {ATTRIBUTES: ''.join(f'{file} linguist-generated\n' for file in files)}
+
+
+def is_step(file):
+    return file.parent.name == 'calls'
+
+
+def generated():
+    """The files that the tool wrote, as they stand."""
+    steps = list(Path('crates').glob('*/proofs/calls.antt')) + list(Path('crates').glob('*/proofs/calls/*.antt'))
+    proofs = [file for file in Path('crates').glob('*/proofs/**/Proof.antt') if file.read_text().startswith(f'-- {GENERATED}')]
+    return set(steps + proofs)
+
+
+def whole():
+    """All that the tool writes: text by file."""
+    texts = yielded(all_pages())
+    return texts | lists([file for file in texts if is_step(file)]) | attributes()
+
+
+def part(wanted):
+    """What some pages yield; the steps of other calls are left as they are."""
+    texts = yielded(wanted)
+    steps = {file for file in texts if is_step(file)} | {file for file in generated() if is_step(file)}
+    return texts | lists(steps) | attributes()
+
+
+def write(texts):
+    for file, text in texts.items():
+        if not file.exists() or file.read_text() != text:
+            file.parent.mkdir(parents=True, exist_ok=True)
+            file.write_text(text)
+
+
+def differences(texts):
+    """What stands otherwise than the texts say, a line each."""
+    out = []
+    for file, text in sorted(texts.items()):
+        if not file.exists():
+            out.append(f'{file} is missing')
+        elif file.read_text() != text:
+            out.append(f'{file} is not what tools/walk writes')
+    return out + [f'{file} is generated, and no page or call is behind it' for file in sorted(generated() - set(texts))]
