@@ -3,6 +3,7 @@ import subprocess
 import tempfile
 from pathlib import Path
 
+from walking.contracts import Signature, source
 from walking.refusal import Refusal, refuse
 from walking.step import call_step
 from walking.text import GENERATED, commented
@@ -39,6 +40,13 @@ def yielded(wanted):
         except Refusal as why:
             refuse(f'crates/{crate}/walks/{name.replace("::", "/")}.walk: {why}')
     return formatted(texts)
+
+
+def standing(crate):
+    """The steps of calls of a crate's functions that are there, by its contracts: text by file. Other crates' pages ask for them."""
+    calls = Path('crates', crate, 'proofs', 'calls')
+    functions = {g.step(): g for g in (Signature(crate, name) for name in source(crate).functions)}
+    return formatted({file: call_step(functions[file.stem]) for file in sorted(calls.glob('*.antt')) if file.stem in functions})
 
 
 def formatted(texts):
@@ -88,9 +96,11 @@ def whole():
     return texts | lists([file for file in texts if is_step(file)]) | attributes()
 
 
-def part(wanted):
-    """What some pages yield; the steps of other calls are left as they are."""
-    texts = yielded(wanted)
+def part(wanted, crate):
+    """What some pages of a crate yield, and the standing steps of its functions; other steps are left as they are."""
+    texts = standing(crate)
+    write(texts)
+    texts |= yielded(wanted)
     steps = {file for file in texts if is_step(file)} | {file for file in generated() if is_step(file)}
     return texts | lists(steps) | attributes()
 
