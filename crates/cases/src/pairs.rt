@@ -85,7 +85,7 @@ pub fn record_before() -> table::Record
 
 // Lends so many records, of as many as the stored cases ask for.
 fn lend_records(k: u8, old: &[u8], new: &[u8], count: usize, plan: &mut [u8]) -> Outcome
-    requires { ⌜ count ≤ 5000 ⌝ }
+    requires few { ⌜ count ≤ 5000 ⌝ }
     ensures { λ r. ⌜ Gives (connectOf blank k (now (old .entry)) (now (new .entry)) (replicate count before) (now (plan .entry))) r (now (plan .exit)) ⌝ }
 {
     let y = record_before();

@@ -108,7 +108,8 @@ fn emit(
     requires old_sheet { ⌜ IsSheet (now old) ⌝ }
     requires settled { ⌜ SettledTable count (now work) ⌝ }
     requires unnumbered { ⌜ Unnumbered count (now work) ⌝ }
-    ensures written { λ r. ⌜ Writes (emittedFrom k (now (old .entry)) count rounds (now (work .entry)) (length (now (plan .entry)))) r
+    ensures written { λ r. ⌜ Writes
+        (emittedFrom k (now (old .entry)) count rounds (now (work .entry)) (length (now (plan .entry)))) r
         (now (plan .entry)) (now (plan .exit)) ⌝ }
 {
     let states = numbering::number_states(work, count);
@@ -132,7 +133,8 @@ fn relate(
 ) -> Answer
     requires searched { ⌜ SearchedTable (now old) (now new) count (now work) ⌝ }
     requires some { ⌜ 0 < count ⌝ }
-    ensures written { λ r. ⌜ Writes (relatedFrom k (now (old .entry)) (now (new .entry)) count (now (work .entry)) (length (now (plan .entry)))) r
+    ensures written { λ r. ⌜ Writes
+        (relatedFrom k (now (old .entry)) (now (new .entry)) count (now (work .entry)) (length (now (plan .entry)))) r
         (now (plan .entry)) (now (plan .exit)) ⌝ }
 {
     let rounds = rounds::settle(old, new, work, count);
@@ -154,7 +156,8 @@ fn connect_checked(
     requires old_sheet { ⌜ IsSheet (now old) ⌝ }
     requires new_sheet { ⌜ IsSheet (now new) ⌝ }
     requires rank { ⌜ k ≤ 3 ⌝ }
-    ensures written { λ r. ⌜ Writes (connectedFrom k (now (old .entry)) (now (new .entry)) (length (now (work .entry))) (length (now (plan .entry)))) r
+    ensures written { λ r. ⌜ Writes
+        (connectedFrom k (now (old .entry)) (now (new .entry)) (length (now (work .entry))) (length (now (plan .entry)))) r
         (now (plan .entry)) (now (plan .exit)) ⌝ }
 {
     let limit = limit_of(work.len());
