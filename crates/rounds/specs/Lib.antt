@@ -4,3 +4,4 @@ pub mod Settled
 pub mod Removing
 pub mod Records
 pub mod Work
+pub mod Steps

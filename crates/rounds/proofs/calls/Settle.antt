@@ -4,10 +4,7 @@
 use Rattle.walks.proofs.Logic.{_≡_, refl, sym, ap, subst, ℕ, _<_, _^_, List, [], _∷_, length, URA, Place, Operand, Body, seq, call, named, w16, w64, Val, vint, SProp, ent, id⊢, Lft, Share, ftrue, flft, Memory, Routine, Heap, Env, Calls, Loops, Atoms, Fun, fact, Given, Goal, Soaks, Item, Go, Sq, Post, runs, lands, settles, ‵, raw, _⊛_, some, later, ⋆, _$_, _∵_, !, qed, cut, move, drop, use1, split, join, pick, fsplit, fjoin, feqL, await, done, Opds, FmC, Is, shows, RefT, MutSlice, ShrSlice, finally, uint-makes, uint-tells, u8, u16, usize, only, owned, heard, peeks, nothing, tripleOf, Contract, Triple, calls-at, calls-at-last, ensured, lasts, says}
 use Rattle.rounds.proofs.settle as callee
 use Rattle.rounds.proofs.settle.Symbol.{name as #rounds·settle}
-use Rattle.rounds.specs.Settled.{WorkTable}
-use Rattle.table.specs.Lists.{keysOf, linksOf, presentOf}
-use Rattle.table.specs.Fresh.{Fresh}
-use Rattle.keys.specs.Masks.{Filled}
+use Rattle.table.specs.States.{SearchedTable}
 use Rattle.rounds.specs.Work.{SettledWork}
 use Rattle.model.specs.Sheet.{contractIn}
 use Rattle.table.proofs.Record as Record-row
@@ -20,7 +17,7 @@ module _ {M : Type 1} (𝓤 : URA M) (H : Heap 𝓤) (A : Atoms 𝓤) (W : Given
   abbrev pub bound : settle-contract 𝓤 H A mem run .Ghost
   bound = (((κ-old, (κ-new, (κ-work, tt))), (q-old, (q-new, (q-work, tt))), tt, (old, (new, (work, (count, tt)))), (s-old ∷ [], (s-new ∷ [], (s-work ∷ [], (vint w64 count ∷ [], tt))))), tt)
 
-  goes : (count < 2 ^ 64) → (WorkTable ((old .now)) ((new .now)) (keysOf ((work .now))) (linksOf ((work .now))) (length ((work .now))) count × Fresh count ((work .now)) × Filled count (linksOf ((work .now))) (presentOf ((work .now)))) → ent 𝓤 (⋆ 𝓤 H A (‵ (flft κ-old q-old) ∷ ‵ (ShrSlice (named 0) κ-old u8 .own old (s-old ∷ [])) ∷ ‵ (flft κ-new q-new) ∷ ‵ (ShrSlice (named 1) κ-new u8 .own new (s-new ∷ [])) ∷ ‵ (flft κ-work q-work) ∷ ‵ (MutSlice (named 2) κ-work Record-row.the-row .own work (s-work ∷ [])) ∷ [])) (settle-contract 𝓤 H A mem run .pre bound)
+  goes : (count < 2 ^ 64) → (SearchedTable ((old .now)) ((new .now)) count ((work .now))) → ent 𝓤 (⋆ 𝓤 H A (‵ (flft κ-old q-old) ∷ ‵ (ShrSlice (named 0) κ-old u8 .own old (s-old ∷ [])) ∷ ‵ (flft κ-new q-new) ∷ ‵ (ShrSlice (named 1) κ-new u8 .own new (s-new ∷ [])) ∷ ‵ (flft κ-work q-work) ∷ ‵ (MutSlice (named 2) κ-work Record-row.the-row .own work (s-work ∷ [])) ∷ [])) (settle-contract 𝓤 H A mem run .pre bound)
   goes fits-count needed =
       qed W (‵ (flft κ-old q-old) ∷ ‵ (ShrSlice (named 0) κ-old u8 .own old (s-old ∷ [])) ∷ ‵ (flft κ-new q-new) ∷ ‵ (ShrSlice (named 1) κ-new u8 .own new (s-new ∷ [])) ∷ ‵ (flft κ-work q-work) ∷ ‵ (MutSlice (named 2) κ-work Record-row.the-row .own work (s-work ∷ [])) ∷ []) ∵
       says ! needed $ nothing ! $ owned ! usize (Is usize) (uint-makes 𝓤 H A W w64) count _ (refl, fits-count) $ fjoin ! $ move ! (6 ∷ 0 ∷ []) $ fjoin ! $ move ! (4 ∷ 0 ∷ []) $ fjoin ! $ move ! (2 ∷ 0 ∷ []) $ fjoin ! $ nothing ! $ move ! (4 ∷ 0 ∷ []) $ join ! $ move ! (3 ∷ 0 ∷ []) $ join ! $ move ! (2 ∷ 0 ∷ []) $ join ! $ done !
@@ -34,12 +31,12 @@ module _ {M : Type 1} (𝓤 : URA M) (H : Heap 𝓤) (A : Atoms 𝓤) (W : Given
         subst (λ (u· : Val). Sq W (‵ (flft κ-old q-old) ∷ ‵ (flft κ-new q-new) ∷ ‵ (flft κ-work q-work) ∷ ‵ (finally Record-row.the-row (work .name) (ws· .1 .1 .0)) ∷ Γ) (goal· u·)) (sym (ap only (uint-tells w16 r (w· ∷ []) is·))) (k· r (ws· .1 .1 .0) (subst (λ (us : List Val). Is u16 r us) (uint-tells w16 r (w· ∷ []) is·) is· .1) l-work e·))))))
 
     module _ {C : Calls 𝓤 H} {Λ : Loops 𝓤 H} {E· : Env 𝓤 H} {p· : Post 𝓤 H} {d· : Place} {xs· : List Operand} where
-      pub calls-settle : {rest· : Body} → FmC 𝓤 H (W .laws) C → Triple 𝓤 (C #rounds·settle) (settle-contract 𝓤 H A mem run) → (count < 2 ^ 64) → (WorkTable ((old .now)) ((new .now)) (keysOf ((work .now))) (linksOf ((work .now))) (length ((work .now))) count × Fresh count ((work .now)) × Filled count (linksOf ((work .now))) (presentOf ((work .now)))) → Opds (Go {0}) W (raw (settle-contract 𝓤 H A mem run .pre bound) ∷ Γ) E· xs· (s-old ∷ s-new ∷ s-work ∷ vint w64 count ∷ [])
+      pub calls-settle : {rest· : Body} → FmC 𝓤 H (W .laws) C → Triple 𝓤 (C #rounds·settle) (settle-contract 𝓤 H A mem run) → (count < 2 ^ 64) → (SearchedTable ((old .now)) ((new .now)) count ((work .now))) → Opds (Go {0}) W (raw (settle-contract 𝓤 H A mem run .pre bound) ∷ Γ) E· xs· (s-old ∷ s-new ∷ s-work ∷ vint w64 count ∷ [])
           → ((r : ℕ) (work′ : List Record) → (r < 2 ^ 16) → (length work′ ≡ length (work .now)) → (SettledWork (contractIn ((old .now))) (contractIn ((new .now))) count r ((work .now)) (work′)) → Sq W (‵ (flft κ-old q-old) ∷ ‵ (flft κ-new q-new) ∷ ‵ (flft κ-work q-work) ∷ ‵ (finally Record-row.the-row (work .name) work′) ∷ Γ) (lands C Λ E· d· (vint w16 r) rest· p·)) → Sq W (‵ (flft κ-old q-old) ∷ ‵ (ShrSlice (named 0) κ-old u8 .own old (s-old ∷ [])) ∷ ‵ (flft κ-new q-new) ∷ ‵ (ShrSlice (named 1) κ-new u8 .own new (s-new ∷ [])) ∷ ‵ (flft κ-work q-work) ∷ ‵ (MutSlice (named 2) κ-work Record-row.the-row .own work (s-work ∷ [])) ∷ Γ) (runs C Λ E· (seq (call #rounds·settle xs· d·) rest·) p·)
       calls-settle {rest·} fm· known· fits-count needed operands· k· = cut {W = W} (‵ (flft κ-old q-old) ∷ ‵ (ShrSlice (named 0) κ-old u8 .own old (s-old ∷ [])) ∷ ‵ (flft κ-new q-new) ∷ ‵ (ShrSlice (named 1) κ-new u8 .own new (s-new ∷ [])) ∷ ‵ (flft κ-work q-work) ∷ ‵ (MutSlice (named 2) κ-work Record-row.the-row .own work (s-work ∷ [])) ∷ []) (raw (settle-contract 𝓤 H A mem run .pre bound) ∷ []) Γ (goes fits-count needed) $
           calls-at ! fm· (settle-contract 𝓤 H A mem run) known· bound operands· (λ w·. after (λ u·. lands C Λ E· d· u· rest· p·) (λ u·. tt) k· w·)
 
-      pub calls-settle-last : FmC 𝓤 H (W .laws) C → Triple 𝓤 (C #rounds·settle) (settle-contract 𝓤 H A mem run) → (count < 2 ^ 64) → (WorkTable ((old .now)) ((new .now)) (keysOf ((work .now))) (linksOf ((work .now))) (length ((work .now))) count × Fresh count ((work .now)) × Filled count (linksOf ((work .now))) (presentOf ((work .now)))) → Opds (Go {0}) W (raw (settle-contract 𝓤 H A mem run .pre bound) ∷ Γ) E· xs· (s-old ∷ s-new ∷ s-work ∷ vint w64 count ∷ [])
+      pub calls-settle-last : FmC 𝓤 H (W .laws) C → Triple 𝓤 (C #rounds·settle) (settle-contract 𝓤 H A mem run) → (count < 2 ^ 64) → (SearchedTable ((old .now)) ((new .now)) count ((work .now))) → Opds (Go {0}) W (raw (settle-contract 𝓤 H A mem run .pre bound) ∷ Γ) E· xs· (s-old ∷ s-new ∷ s-work ∷ vint w64 count ∷ [])
           → ((r : ℕ) (work′ : List Record) → (r < 2 ^ 16) → (length work′ ≡ length (work .now)) → (SettledWork (contractIn ((old .now))) (contractIn ((new .now))) count r ((work .now)) (work′)) → Sq W (‵ (flft κ-old q-old) ∷ ‵ (flft κ-new q-new) ∷ ‵ (flft κ-work q-work) ∷ ‵ (finally Record-row.the-row (work .name) work′) ∷ Γ) (settles E· d· (vint w16 r) p·)) → Sq W (‵ (flft κ-old q-old) ∷ ‵ (ShrSlice (named 0) κ-old u8 .own old (s-old ∷ [])) ∷ ‵ (flft κ-new q-new) ∷ ‵ (ShrSlice (named 1) κ-new u8 .own new (s-new ∷ [])) ∷ ‵ (flft κ-work q-work) ∷ ‵ (MutSlice (named 2) κ-work Record-row.the-row .own work (s-work ∷ [])) ∷ Γ) (runs C Λ E· (call #rounds·settle xs· d·) p·)
       calls-settle-last fm· known· fits-count needed operands· k· = cut {W = W} (‵ (flft κ-old q-old) ∷ ‵ (ShrSlice (named 0) κ-old u8 .own old (s-old ∷ [])) ∷ ‵ (flft κ-new q-new) ∷ ‵ (ShrSlice (named 1) κ-new u8 .own new (s-new ∷ [])) ∷ ‵ (flft κ-work q-work) ∷ ‵ (MutSlice (named 2) κ-work Record-row.the-row .own work (s-work ∷ [])) ∷ []) (raw (settle-contract 𝓤 H A mem run .pre bound) ∷ []) Γ (goes fits-count needed) $
           calls-at-last ! fm· (settle-contract 𝓤 H A mem run) known· bound operands· (λ w·. after (λ u·. settles E· d· u· p·) (λ u·. tt) k· w·)
