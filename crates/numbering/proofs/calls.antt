@@ -18,6 +18,8 @@ pub mod TableFieldsSlotsOf
 pub mod WriteOffsetOf
 pub mod WritePlaceAt
 pub mod WritePlan
+pub mod WriteRowLengthAt
+pub mod WriteStateAt
 pub mod WriteTrailerAt
 pub mod WriteWholeLength
 pub mod WriteWide

@@ -1,6 +1,6 @@
 -- `numbering::write::write_row` meets its contract: a walk of its code, written by tools/walk from walks/write/write_row.walk.
 -- Assumes nothing.
-use Rattle.walks.proofs.Logic.{_≡_, refl, _∙_, not, WellFounded, InvImage·wf, ℕ, _<_, _≤_, _^_, _+_, _-_, arith, List, [], _∷_, lit<, eqb, length, getD, Nat·lt-wfRel, URA, fullShare, Ty, named, erased, imm, mut, w8, w16, w64, tyPtr, tyInt, tyBool, tyUnit, tyRef, Val, vint, vbool, SProp, ent, Lft, Share, GName, ftrue, flft, Memory, Routine, afterTurn, Heap, Env, Out, Wp, WpFn, Tables, afterSeq, afterBlock, atReturn, Atoms, Fun, tablesOf, givenOf, tables, Given, Item, Sq, runs, anyQ, atRet, ‵, _⊛_, ⋆, _$_, _∵_, !, qed, by, move, keep, split, join, fsplit, fjoin, suffices, done, look, init, store, forget, stop, hop, fld, from, load, lit, addr, and-then, no-more, land, land-last, of-opd, bin, assigns, first, blocks, loops, again, Below, exec, returns-within, enter, alloc1, alloc0, params1, pass1, pass0, agg, whole, sub, look-in, fmOf, WpFn-mono, owns, Is, pointee, RefT, sliceTy, sliceVal, MutSlice, ShrSlice, Room, slice-vals, mut-slice-tells, shr-slice-tells, uint-makes, uint-vals, uint-tells, u8, usize, owned, nothing, plain, onEntry, Meets, tripleOf, Triple, entered, cited, says, needs, Stays, stay-none, stay-slice, stay-none-slice, walkOf, goes-none, goes-slice, goes-none-slice, Walks, ends-at, walked, walk-meets, yes}
+use Rattle.walks.proofs.Logic.{_≡_, refl, _∙_, not, WellFounded, InvImage·wf, ℕ, _<_, _^_, _+_, _-_, arith, List, [], _∷_, lit<, eqb, length, getD, Nat·lt-wfRel, URA, fullShare, Ty, named, erased, imm, mut, w8, w16, w64, tyPtr, tyInt, tyBool, tyUnit, tyRef, Val, vint, vbool, SProp, ent, Lft, Share, GName, ftrue, flft, Memory, Routine, afterTurn, Heap, Env, Out, Wp, WpFn, Tables, afterSeq, afterBlock, atReturn, Atoms, Fun, tablesOf, givenOf, tables, Given, Item, Sq, runs, anyQ, atRet, ‵, _⊛_, ⋆, _$_, _∵_, !, qed, by, move, keep, split, join, fsplit, fjoin, suffices, done, look, init, store, forget, stop, hop, fld, from, load, lit, addr, and-then, no-more, land, land-last, of-opd, bin, assigns, first, blocks, loops, again, Below, exec, returns-within, enter, alloc1, alloc0, params1, pass1, pass0, agg, whole, sub, look-in, fmOf, WpFn-mono, owns, Is, pointee, RefT, sliceTy, sliceVal, MutSlice, ShrSlice, Room, slice-vals, mut-slice-tells, shr-slice-tells, uint-makes, uint-vals, uint-tells, u8, usize, owned, nothing, plain, onEntry, Meets, tripleOf, Triple, entered, cited, says, needs, Stays, stay-none, stay-slice, stay-none-slice, walkOf, goes-none, goes-slice, goes-none-slice, Walks, ends-at, walked, walk-meets, yes}
 use Rattle.walks.proofs.Branches.{empty, full, less-fits, unequal, not-unequal, tests}
 use Rattle.walks.proofs.Freed.{bare, held, released}
 use Rattle.walks.proofs.Lent.{lentAt, lend, regain, share}
@@ -20,7 +20,7 @@ use Rattle.numbering.proofs.calls.TableFieldsSlotsOf.{calls-slots-of, s
 use Rattle.table.proofs.fields.slots_of.Symbol as slots-of-def
 use Rattle.table.proofs.fields.slots_of.Symbol.{name as #table·fields·slots-of}
 use Rattle.table.proofs.fields.slots_of.Met as slots-of-thm
-use Rattle.table.specs.Lists.{linksOf, marksOf, numbersOf, presentOf, slotsOf}
+use Rattle.table.specs.Lists.{slotsOf}
 use Rattle.numbering.proofs.calls.FieldsMovesIn.{calls-moves-in, moves-in-contract}
 use Rattle.numbering.proofs.fields.moves_in.Symbol as moves-in-def
 use Rattle.numbering.proofs.fields.moves_in.Symbol.{name as #numbering·fields·moves-in}
@@ -31,7 +31,6 @@ use Rattle.plan.proofs.write.put_byte.Symbol as put-byte-def
 use Rattle.plan.proofs.write.put_byte.Symbol.{name as #plan·write·put-byte}
 use Rattle.plan.proofs.write.put_byte.Met as put-byte-thm
 use Rattle.plan.specs.Front.{front}
-use mathlib.Core.List.{List·Memᴰ}
 use Rattle.numbering.proofs.calls.KeysLowest.{calls-lowest, lowest-contract}
 use Rattle.keys.proofs.lowest.Symbol as lowest-def
 use Rattle.keys.proofs.lowest.Symbol.{name as #keys·lowest}
@@ -53,10 +52,9 @@ use Rattle.numbering.proofs.calls.KeysWithoutLowest.{calls-without-lowe
 use Rattle.keys.proofs.without_lowest.Symbol as without-lowest-def
 use Rattle.keys.proofs.without_lowest.Symbol.{name as #keys·without-lowest}
 use Rattle.keys.proofs.without_lowest.Met as without-lowest-thm
-use Rattle.numbering.proofs.RowWritten.{move-small, row-at, row-room}
-use Rattle.numbering.proofs.RowAt.{WritingRow, count-small, link-positive, move-needs, row-ends, row-nearer, row-on, row-starts, row-there, slot-small, target-there}
-use Rattle.numbering.specs.Kept.{Shown, WorkLists, rowIn, statesIn}
-use Rattle.numbering.specs.Numbered.{Numbers}
+use Rattle.numbering.proofs.records.Row.{WritingRow, count-room, count-small, link-named, move-needs, move-small, row-ends, row-nearer, row-on, row-starts, row-there, row-within, slot-small, target-there}
+use Rattle.numbering.specs.Writing.{RowToWrite, Wrote}
+use Rattle.numbering.specs.Table.{rowAt}
 use Rattle.table.proofs.Record as Record-row
 use Rattle.table.proofs.Record.Laws as Record-laws
 use Rattle.table.specs.declared.Record.{Record}
@@ -76,7 +74,7 @@ abbrev τ3 : Ty
 abbrev stayed : Stays (this.ended .signature .params) (this.ended .kept)
 stayed = (stay-none-slice (0 ∷ []) tt (plain (λ _. Record-row.the-row)) yes, (stay-none (λ _. usize) yes, (stay-none (λ _. usize) yes, (stay-slice (1 ∷ []) tt (plain (λ _. u8)), tt))))
 
-module _ {M : Type 1} (𝓤 : URA M) (H : Heap 𝓤) (A : Atoms 𝓤) (W : Given 𝓤 H A) (mem : Memory → SProp 𝓤) (run : Routine → Fun 𝓤) (κ-work : Lft) (q-work : Share) (b-work o-work : ℕ) (γ-work : GName) (work : List Record) (count : ℕ) (i : ℕ) (κ-out : Lft) (q-out : Share) (b-out o-out : ℕ) (γ-out : GName) (out : List ℕ) (room-work : Room Record-row.the-row (length work)) (fits-count : count < 2 ^ 64) (fits-i : i < 2 ^ 64) (room-out : Room u8 (length out)) (needed : WorkLists count (linksOf (work)) (marksOf (work)) × Shown count (linksOf (work)) (marksOf (work)) (presentOf (work)) × Numbers count (statesIn (linksOf (work)) (marksOf (work)) count) (numbersOf (work)) × List·Memᴰ i (statesIn (linksOf (work)) (marksOf (work)) count) × (length (rowBytes (rowIn (linksOf (work)) (marksOf (work)) count i)) ≤ length (out))) where
+module _ {M : Type 1} (𝓤 : URA M) (H : Heap 𝓤) (A : Atoms 𝓤) (W : Given 𝓤 H A) (mem : Memory → SProp 𝓤) (run : Routine → Fun 𝓤) (κ-work : Lft) (q-work : Share) (b-work o-work : ℕ) (γ-work : GName) (work : List Record) (count : ℕ) (i : ℕ) (κ-out : Lft) (q-out : Share) (b-out o-out : ℕ) (γ-out : GName) (out : List ℕ) (room-work : Room Record-row.the-row (length work)) (fits-count : count < 2 ^ 64) (fits-i : i < 2 ^ 64) (room-out : Room u8 (length out)) (writing : RowToWrite count i (work) (out)) where
   abbrev s-work : Val
   s-work = sliceVal (b-work, o-work) (length work)
 
@@ -96,7 +94,7 @@ module _ {M : Type 1} (𝓤 : URA M) (H : Heap 𝓤) (A : Atoms 𝓤) (W : Given
   Ends = walkOf 𝓤 H A this.ended stayed (this.clauses 𝓤 H A mem run) .post (((κ-work, (κ-out, tt)), (q-work, (q-out, tt)), tt, args, machine), tt)
 
   -- what is had at an exit
-  exits : (r : ℕ) (out′ : List ℕ) (fits-res : r < 2 ^ 64) (long-out : length out′ ≡ length out) (said : (r ≡ length (rowBytes (rowIn (linksOf (work)) (marksOf (work)) count i))) × (out′ ≡ front (rowBytes (rowIn (linksOf (work)) (marksOf (work)) count i)) (out))) → ent 𝓤 (⋆ 𝓤 H A (‵ (ShrSlice (named 0) κ-work Record-row.the-row .own (lentAt b-work o-work γ-work work) (s-work ∷ [])) ∷ ‵ (flft κ-work q-work) ∷ ‵ (MutSlice (named 1) κ-out u8 .own (lentAt b-out o-out γ-out out′) (s-out ∷ [])) ∷ ‵ (flft κ-out q-out) ∷ [])) (Ends (vint w64 r))
+  exits : (r : ℕ) (out′ : List ℕ) (fits-res : r < 2 ^ 64) (long-out : length out′ ≡ length out) (said : Wrote (rowBytes (rowAt count i (work))) r (out) (out′)) → ent 𝓤 (⋆ 𝓤 H A (‵ (ShrSlice (named 0) κ-work Record-row.the-row .own (lentAt b-work o-work γ-work work) (s-work ∷ [])) ∷ ‵ (flft κ-work q-work) ∷ ‵ (MutSlice (named 1) κ-out u8 .own (lentAt b-out o-out γ-out out′) (s-out ∷ [])) ∷ ‵ (flft κ-out q-out) ∷ [])) (Ends (vint w64 r))
   exits r out′ fits-res long-out said =
       qed W (‵ (ShrSlice (named 0) κ-work Record-row.the-row .own (lentAt b-work o-work γ-work work) (s-work ∷ [])) ∷ ‵ (flft κ-work q-work) ∷ ‵ (MutSlice (named 1) κ-out u8 .own (lentAt b-out o-out γ-out out′) (s-out ∷ [])) ∷ ‵ (flft κ-out q-out) ∷ []) ∵
       suffices ! _ (ends-at 𝓤 H A this.ended stayed (this.clauses 𝓤 H A mem run) W (((κ-work, (κ-out, tt)), (q-work, (q-out, tt)), tt, args, machine), tt) (vint w64 r) r (tt, (tt, (tt, (out′, tt)))) (tt, (tt, (tt, (long-out, tt))))) $ says ! said $
@@ -135,36 +133,36 @@ module _ {M : Type 1} (𝓤 : URA M) (H : Heap 𝓤) (A : Atoms 𝓤) (W : Given
         turn rest at outs fits-rest fits-at long-outs known =
             assigns ! (bin ! (load ! (from ! (stop !)) (look ! 32 refl)) (lit ! tt) tt) (from ! (stop !)) (init ! 14 refl (tt, tt)) $
             tests ! (load ! (from ! (stop !)) (look ! 14 refl)) (unequal rest 0) (not-unequal rest 0)
-            (λ more. calls-lowest 𝓤 H A W mem run rest (fmOf 𝓤 H (W .laws) 𝓣) known-lowest fits-rest (slot-small work (needed .0) (needed .1) (needed .3) known more)
+            (λ more. calls-lowest 𝓤 H A W mem run rest (fmOf 𝓤 H (W .laws) 𝓣) known-lowest fits-rest (slot-small work writing known more)
             (and-then ! (load ! (from ! (stop !)) (look ! 33 refl)) (no-more !)) (λ slot fits-slot slot-is.
             land ! (from ! (stop !)) (init ! 28 refl (tt, record { fits = fits-slot })) $
             share ! Record-row.the-row (named 0) κ-work (lentAt b-work o-work γ-work work) (s-work ∷ []) (move ! (2 ∷ 0 ∷ []) $
-            calls-next-at 𝓤 H A W mem run κ-work q-work (lentAt b-work o-work γ-work work) s-work i slot (fmOf 𝓤 H (W .laws) 𝓣) known-next-at fits-i fits-slot (row-there work (needed .0) (needed .1) (needed .3), omega (arith, slot-is, slot-small work (needed .0) (needed .1) (needed .3) known more))
+            calls-next-at 𝓤 H A W mem run κ-work q-work (lentAt b-work o-work γ-work work) s-work i slot (fmOf 𝓤 H (W .laws) 𝓣) known-next-at fits-i fits-slot (row-there work writing, omega (arith, slot-is, slot-small work writing known more))
             (and-then ! (load ! (from ! (stop !)) (look ! 42 refl)) (and-then ! (load ! (from ! (stop !)) (look ! 38 refl)) (and-then ! (load ! (from ! (stop !)) (look ! 28 refl)) (no-more !)))) (λ link fits-link link-is.
             move ! (1 ∷ 0 ∷ 2 ∷ 3 ∷ []) $ land ! (from ! (stop !)) (init ! 26 refl (tt, record { fits = fits-link })) $
-            calls-place-of 𝓤 H A W mem run link (fmOf 𝓤 H (W .laws) 𝓣) known-place-of fits-link (link-positive work (needed .0) (needed .1) (needed .3) known more (needed .2) slot-is link-is)
+            calls-place-of 𝓤 H A W mem run link (fmOf 𝓤 H (W .laws) 𝓣) known-place-of fits-link (link-named work writing known more slot-is link-is)
             (and-then ! (load ! (from ! (stop !)) (look ! 27 refl)) (no-more !)) (λ t fits-t t-is.
             land ! (from ! (stop !)) (init ! 12 refl (tt, record { fits = fits-t })) $
             share ! Record-row.the-row (named 0) κ-work (lentAt b-work o-work γ-work work) (s-work ∷ []) (move ! (2 ∷ 0 ∷ []) $
-            calls-load 𝓤 H A W mem run κ-work q-work (lentAt b-work o-work γ-work work) s-work t (fmOf 𝓤 H (W .laws) 𝓣) known-load fits-t (target-there work (needed .0) (needed .1) (needed .3) known more (needed .2) slot-is link-is t-is)
+            calls-load 𝓤 H A W mem run κ-work q-work (lentAt b-work o-work γ-work work) s-work t (fmOf 𝓤 H (W .laws) 𝓣) known-load fits-t (target-there work writing known more slot-is link-is t-is)
             (and-then ! (load ! (from ! (stop !)) (look ! 42 refl)) (and-then ! (load ! (from ! (stop !)) (look ! 12 refl)) (no-more !))) (λ z is-z z-is.
             move ! (1 ∷ 0 ∷ 2 ∷ 3 ∷ []) $ land ! (from ! (stop !)) (init ! 24 refl (LL.lawful Record-row.the-type Record-laws.the-laws 𝓤 H A W .typed z _ is-z .0)) $
             assigns ! (bin ! (load ! (from ! (fld ! refl (stop !))) (look-in ! 36 (sub ! 0 refl (whole !)))) (load ! (from ! (stop !)) (look ! 30 refl)) tt) (from ! (stop !)) (init ! 8 refl (tt, tt)) $
-            assigns ! (bin ! (load ! (from ! (fld ! refl (stop !))) (look-in ! 36 (sub ! 1 refl (whole !)))) (load ! (from ! (stop !)) (look ! 30 refl)) (omega (arith, row-at (known .way), long-outs))) (from ! (stop !)) (store ! 12 refl (tt, record { fits = (less-fits (length out) at (room-out .0)) })) $
+            assigns ! (bin ! (load ! (from ! (fld ! refl (stop !))) (look-in ! 36 (sub ! 1 refl (whole !)))) (load ! (from ! (stop !)) (look ! 30 refl)) (omega (arith, row-within work writing known, long-outs))) (from ! (stop !)) (store ! 12 refl (tt, record { fits = (less-fits (length out) at (room-out .0)) })) $
             assigns ! (addr ! (from ! (hop ! (look ! 8 refl) (stop !)))) (from ! (stop !)) (init ! 6 refl (tt, tt)) $
             assigns ! (agg ! (and-then ! (load ! (from ! (stop !)) (look ! 6 refl)) (and-then ! (load ! (from ! (stop !)) (look ! 12 refl)) (no-more !)))) (from ! (stop !)) (init ! 4 refl (tt, (tt, (record { fits = less-fits (length out) at (room-out .0) }, tt)))) $
-            move ! (2 ∷ 3 ∷ []) $ lend-rest κ-out q-out γ-out b-out o-out (length out) at outs long-outs (omega (arith, row-at (known .way), long-outs)) ! tt (named 1) (λ ν-12-out δ-12-out.
-            calls-write-move 𝓤 H A W mem run (ν-12-out ∷ []) fullShare (lentAt b-out (at + o-out) δ-12-out (restOf at outs)) (sliceVal (b-out, at + o-out) (length out - at)) slot (z .number) (fmOf 𝓤 H (W .laws) 𝓣) known-write-move fits-slot (LL.lawful Record-row.the-type Record-laws.the-laws 𝓤 H A W .typed z _ is-z .0 .1 .1 .1 .1 .1 .1 .0 .fits) (move-needs work (needed .0) (needed .1) (needed .3) known more (needed .2) slot-is link-is t-is z-is)
+            move ! (2 ∷ 3 ∷ []) $ lend-rest κ-out q-out γ-out b-out o-out (length out) at outs long-outs (omega (arith, row-within work writing known, long-outs)) ! tt (named 1) (λ ν-12-out δ-12-out.
+            calls-write-move 𝓤 H A W mem run (ν-12-out ∷ []) fullShare (lentAt b-out (at + o-out) δ-12-out (restOf at outs)) (sliceVal (b-out, at + o-out) (length out - at)) slot (z .number) (fmOf 𝓤 H (W .laws) 𝓣) known-write-move fits-slot (LL.lawful Record-row.the-type Record-laws.the-laws 𝓤 H A W .typed z _ is-z .0 .1 .1 .1 .1 .1 .1 .0 .fits) (move-needs work writing known more slot-is link-is t-is z-is)
             (and-then ! (load ! (from ! (stop !)) (look ! 4 refl)) (and-then ! (load ! (from ! (stop !)) (look ! 28 refl)) (and-then ! (load ! (from ! (fld ! refl (stop !))) (look-in ! 24 (sub ! 5 refl (whole !)))) (no-more !)))) (λ moved same-moved moved-is.
-            move ! (0 ∷ 2 ∷ 1 ∷ []) $ regain-rest κ-out q-out γ-out b-out o-out (length out) at outs long-outs (omega (arith, row-at (known .way), long-outs)) ! tt (named 1) ν-12-out δ-12-out moved (move ! (2 ∷ 3 ∷ 0 ∷ 1 ∷ []) $ land ! (from ! (stop !)) (init ! 10 refl (tt, tt)) $
-            assigns ! (bin ! (load ! (from ! (stop !)) (look ! 30 refl)) (lit ! tt) (record { fits = omega (arith, move-small (needed .0) (needed .1) (needed .3) (known .left) (known .way) (needed .2) more) })) (from ! (stop !)) (store ! 30 refl (tt, record { fits = (omega (arith, move-small (needed .0) (needed .1) (needed .3) (known .left) (known .way) (needed .2) more)) })) $
+            move ! (0 ∷ 2 ∷ 1 ∷ []) $ regain-rest κ-out q-out γ-out b-out o-out (length out) at outs long-outs (omega (arith, row-within work writing known, long-outs)) ! tt (named 1) ν-12-out δ-12-out moved (move ! (2 ∷ 3 ∷ 0 ∷ 1 ∷ []) $ land ! (from ! (stop !)) (init ! 10 refl (tt, tt)) $
+            assigns ! (bin ! (load ! (from ! (stop !)) (look ! 30 refl)) (lit ! tt) (record { fits = omega (arith, move-small work writing known more) })) (from ! (stop !)) (store ! 30 refl (tt, record { fits = (omega (arith, move-small work writing known more)) })) $
             calls-without-lowest-last 𝓤 H A W mem run rest (fmOf 𝓤 H (W .laws) 𝓣) known-without-lowest fits-rest (omega (arith, more))
             (and-then ! (load ! (from ! (stop !)) (look ! 33 refl)) (no-more !)) (λ less fits-less less-is.
             land-last ! (from ! (stop !)) (store ! 32 refl (tt, record { fits = fits-less })) $
-            forget ! 28 refl $ forget ! 26 refl $ forget ! 24 refl $ forget ! 14 refl $ forget ! 12 refl $ forget ! 10 refl $ forget ! 8 refl $ forget ! 6 refl $ forget ! 4 refl $ again ! Nearer At (rest, (at, (outs, (fits-rest, (fits-at, (long-outs, (known))))))) (less, ((at + 3), ((withRest at outs moved), (fits-less, ((omega (arith, move-small (needed .0) (needed .1) (needed .3) (known .left) (known .way) (needed .2) more)), ((rest-long at outs moved same-moved ∙ long-outs), (row-on work (needed .0) (needed .1) (needed .3) known more (needed .2) slot-is link-is t-is z-is moved-is less-is))))))) (row-nearer work (needed .0) (needed .1) (needed .3) known more less-is))))))))))))
+            forget ! 28 refl $ forget ! 26 refl $ forget ! 24 refl $ forget ! 14 refl $ forget ! 12 refl $ forget ! 10 refl $ forget ! 8 refl $ forget ! 6 refl $ forget ! 4 refl $ again ! Nearer At (rest, (at, (outs, (fits-rest, (fits-at, (long-outs, (known))))))) (less, ((at + 3), ((withRest at outs moved), (fits-less, ((omega (arith, move-small work writing known more)), ((rest-long at outs moved same-moved ∙ long-outs), (row-on work writing known more slot-is link-is t-is z-is moved-is less-is))))))) (row-nearer work writing known more less-is))))))))))))
             (λ over. exec ! (𝓣 .C) (𝓣 .Λ) En this-mir.t-9 (atRet En Ends) $
             assigns ! (of-opd ! (load ! (from ! (stop !)) (look ! 30 refl))) (from ! (stop !)) (init ! 44 refl (tt, record { fits = fits-at })) $
-            returns-within ! Ends refl (look ! 44 refl) $ released ! (‵ (ShrSlice (named 0) κ-work Record-row.the-row .own (lentAt b-work o-work γ-work work) (s-work ∷ [])) ∷ ‵ (flft κ-work q-work) ∷ ‵ (MutSlice (named 1) κ-out u8 .own (lentAt b-out o-out γ-out outs) (s-out ∷ [])) ∷ ‵ (flft κ-out q-out) ∷ []) (held (tyInt w64) l0 (vint w64 at) ∷ held τ0 l1 (s-work) ∷ bare (tyInt w64) l2 ∷ held (tyInt w64) l3 (vint w64 i) ∷ held τ1 l4 (s-out) ∷ bare Record-laws.mir l5 ∷ held (tyInt w64) l6 (vint w64 rest) ∷ held (tyInt w64) l7 (vint w64 at) ∷ bare (tyInt w64) l8 ∷ bare (tyInt w16) l9 ∷ bare Record-laws.mir l10 ∷ bare tyUnit l11 ∷ bare τ2 l12 ∷ bare τ3 l13 ∷ bare (tyInt w8) l14 ∷ held tyBool l15 (vbool (not (eqb rest 0))) ∷ bare (tyInt w64) l16 ∷ bare tyUnit l17 ∷ bare tyPtr l18 ∷ bare τ2 l19 ∷ bare τ3 l20 ∷ []) $ by ! (exits at outs fits-at long-outs (row-ends work (needed .0) (needed .1) (needed .3) known over)))
+            returns-within ! Ends refl (look ! 44 refl) $ released ! (‵ (ShrSlice (named 0) κ-work Record-row.the-row .own (lentAt b-work o-work γ-work work) (s-work ∷ [])) ∷ ‵ (flft κ-work q-work) ∷ ‵ (MutSlice (named 1) κ-out u8 .own (lentAt b-out o-out γ-out outs) (s-out ∷ [])) ∷ ‵ (flft κ-out q-out) ∷ []) (held (tyInt w64) l0 (vint w64 at) ∷ held τ0 l1 (s-work) ∷ bare (tyInt w64) l2 ∷ held (tyInt w64) l3 (vint w64 i) ∷ held τ1 l4 (s-out) ∷ bare Record-laws.mir l5 ∷ held (tyInt w64) l6 (vint w64 rest) ∷ held (tyInt w64) l7 (vint w64 at) ∷ bare (tyInt w64) l8 ∷ bare (tyInt w16) l9 ∷ bare Record-laws.mir l10 ∷ bare tyUnit l11 ∷ bare τ2 l12 ∷ bare τ3 l13 ∷ bare (tyInt w8) l14 ∷ held tyBool l15 (vbool (not (eqb rest 0))) ∷ bare (tyInt w64) l16 ∷ bare tyUnit l17 ∷ bare tyPtr l18 ∷ bare τ2 l19 ∷ bare τ3 l20 ∷ []) $ by ! (exits at outs fits-at long-outs (row-ends work writing known over)))
 
         turns : (t : State) → Sq W (At t) (runs (𝓣 .C) (𝓣 .Λ) En this-mir.turn-1 (anyQ (Turned t)))
         turns t = turn (t .0) (t .1 .0) (t .1 .1 .0) (t .1 .1 .1 .0) (t .1 .1 .1 .1 .0) (t .1 .1 .1 .1 .1 .0) (t .1 .1 .1 .1 .1 .1)
@@ -172,12 +170,12 @@ module _ {M : Type 1} (𝓤 : URA M) (H : Heap 𝓤) (A : Atoms 𝓤) (W : Given
       part-6 : (y : Record) (is-y : Is Record-row.the-row y (Record-laws.lowered y ∷ [])) (y-is : y ≡ getD (work) i blank) (slots : ℕ) (fits-slots : slots < 2 ^ 64) (slots-are : slots ≡ slotsOf y) (size : ℕ) (fits-size : size < 2 ^ 8) (size-is : size ≡ ones slots) (begun : List ℕ) (same-begun : length begun ≡ length out) (begun-is : begun ≡ front (size ∷ []) (out)) → Sq W (‵ (ShrSlice (named 0) κ-work Record-row.the-row .own (lentAt b-work o-work γ-work work) (s-work ∷ [])) ∷ ‵ (flft κ-work q-work) ∷ ‵ (MutSlice (named 1) κ-out u8 .own (lentAt b-out o-out γ-out begun) (s-out ∷ [])) ∷ ‵ (flft κ-out q-out) ∷ empty τ3 l20 (empty τ2 l19 (empty tyPtr l18 (empty tyUnit l17 (empty (tyInt w64) l16 (empty tyBool l15 (empty (tyInt w8) l14 (empty τ3 l13 (empty τ2 l12 (empty tyUnit l11 (empty Record-laws.mir l10 (empty (tyInt w16) l9 (empty (tyInt w64) l8 (empty (tyInt w64) l7 (full (tyInt w64) l6 (vint w64 slots) (empty Record-laws.mir l5 (full τ1 l4 (s-out) (full (tyInt w64) l3 (vint w64 i) (empty (tyInt w64) l2 (full τ0 l1 (s-work) (empty (tyInt w64) l0 ([])))))))))))))))))))))) (runs (𝓣 .C) (𝓣 .Λ) En this-mir.t-7 (atRet En Ends))
       part-6 y is-y y-is slots fits-slots slots-are size fits-size size-is begun same-begun begun-is =
           assigns ! (of-opd ! (lit ! tt)) (from ! (stop !)) (init ! 30 refl (tt, record { fits = lit< tt })) $
-          first ! $ blocks ! $ loops ! 𝓣 Nearer Nearer-wf (At y is-y y-is slots fits-slots slots-are size fits-size size-is begun same-begun begun-is) (turns y is-y y-is slots fits-slots slots-are size fits-size size-is begun same-begun begun-is) (slots, (1, (begun, (fits-slots, (lit< tt, ((same-begun ∙ refl), (row-starts work (needed .0) (needed .1) (needed .3) y-is slots-are size-is begun-is (needed .4))))))))
+          first ! $ blocks ! $ loops ! 𝓣 Nearer Nearer-wf (At y is-y y-is slots fits-slots slots-are size fits-size size-is begun same-begun begun-is) (turns y is-y y-is slots fits-slots slots-are size fits-size size-is begun same-begun begun-is) (slots, (1, (begun, (fits-slots, (lit< tt, ((same-begun ∙ refl), (row-starts work writing y-is slots-are size-is begun-is)))))))
 
       part-1 : Sq W (‵ (ShrSlice (named 0) κ-work Record-row.the-row .own (lentAt b-work o-work γ-work work) (s-work ∷ [])) ∷ ‵ (flft κ-work q-work) ∷ ‵ (MutSlice (named 1) κ-out u8 .own (lentAt b-out o-out γ-out out) (s-out ∷ [])) ∷ ‵ (flft κ-out q-out) ∷ empty τ3 l20 (empty τ2 l19 (empty tyPtr l18 (empty tyUnit l17 (empty (tyInt w64) l16 (empty tyBool l15 (empty (tyInt w8) l14 (empty τ3 l13 (empty τ2 l12 (empty tyUnit l11 (empty Record-laws.mir l10 (empty (tyInt w16) l9 (empty (tyInt w64) l8 (empty (tyInt w64) l7 (empty (tyInt w64) l6 (empty Record-laws.mir l5 (full τ1 l4 (s-out) (full (tyInt w64) l3 (vint w64 i) (empty (tyInt w64) l2 (full τ0 l1 (s-work) (empty (tyInt w64) l0 ([])))))))))))))))))))))) (runs (𝓣 .C) (𝓣 .Λ) En this-mir.t-1 (atRet En Ends))
       part-1 =
           share ! Record-row.the-row (named 0) κ-work (lentAt b-work o-work γ-work work) (s-work ∷ []) (move ! (2 ∷ 0 ∷ []) $
-          calls-load 𝓤 H A W mem run κ-work q-work (lentAt b-work o-work γ-work work) s-work i (fmOf 𝓤 H (W .laws) 𝓣) known-load fits-i (row-there work (needed .0) (needed .1) (needed .3))
+          calls-load 𝓤 H A W mem run κ-work q-work (lentAt b-work o-work γ-work work) s-work i (fmOf 𝓤 H (W .laws) 𝓣) known-load fits-i (row-there work writing)
           (and-then ! (load ! (from ! (stop !)) (look ! 42 refl)) (and-then ! (load ! (from ! (stop !)) (look ! 38 refl)) (no-more !))) (λ y is-y y-is.
           move ! (1 ∷ 0 ∷ 2 ∷ 3 ∷ []) $ land ! (from ! (stop !)) (init ! 34 refl (LL.lawful Record-row.the-type Record-laws.the-laws 𝓤 H A W .typed y _ is-y .0)) $
           calls-slots-of 𝓤 H A W mem run y (fmOf 𝓤 H (W .laws) 𝓣) known-slots-of is-y
@@ -185,11 +183,11 @@ module _ {M : Type 1} (𝓤 : URA M) (H : Heap 𝓤) (A : Atoms 𝓤) (W : Given
           land ! (from ! (stop !)) (init ! 32 refl (tt, record { fits = fits-slots })) $
           assigns ! (addr ! (from ! (fld ! refl (hop ! (look-in ! 36 (sub ! 0 refl (whole !))) (stop !))))) (from ! (stop !)) (init ! 20 refl (tt, tt)) $
           assigns ! (agg ! (and-then ! (load ! (from ! (stop !)) (look ! 20 refl)) (and-then ! (load ! (from ! (fld ! refl (stop !))) (look-in ! 36 (sub ! 1 refl (whole !)))) (no-more !)))) (from ! (stop !)) (init ! 18 refl (tt, (tt, (record { fits = room-out .0 }, tt)))) $
-          calls-moves-in 𝓤 H A W mem run slots (fmOf 𝓤 H (W .laws) 𝓣) known-moves-in fits-slots (count-small work (needed .0) (needed .1) (needed .3) y-is slots-are)
+          calls-moves-in 𝓤 H A W mem run slots (fmOf 𝓤 H (W .laws) 𝓣) known-moves-in fits-slots (count-small work writing y-is slots-are)
           (and-then ! (load ! (from ! (stop !)) (look ! 33 refl)) (no-more !)) (λ size fits-size size-is.
           land ! (from ! (stop !)) (init ! 16 refl (tt, record { fits = fits-size })) $
           move ! (2 ∷ 3 ∷ []) $ lend ! tt u8 (named 1) κ-out q-out γ-out b-out o-out (length out) out refl (λ ν-5-out δ-5-out.
-          calls-put-byte 𝓤 H A W mem run (ν-5-out ∷ []) fullShare (lentAt b-out o-out δ-5-out out) s-out size (fmOf 𝓤 H (W .laws) 𝓣) known-put-byte fits-size (row-room _ (needed .4))
+          calls-put-byte 𝓤 H A W mem run (ν-5-out ∷ []) fullShare (lentAt b-out o-out δ-5-out out) s-out size (fmOf 𝓤 H (W .laws) 𝓣) known-put-byte fits-size (count-room work writing)
           (and-then ! (load ! (from ! (stop !)) (look ! 18 refl)) (and-then ! (load ! (from ! (stop !)) (look ! 16 refl)) (no-more !))) (λ begun same-begun begun-is.
           move ! (0 ∷ 2 ∷ 1 ∷ []) $ regain ! tt u8 (named 1) κ-out q-out γ-out b-out o-out (length out) out refl ν-5-out δ-5-out begun room-out same-begun (move ! (2 ∷ 3 ∷ 0 ∷ 1 ∷ []) $ land ! (from ! (stop !)) (init ! 22 refl (tt, tt)) $
           forget ! 34 refl $ forget ! 22 refl $ forget ! 20 refl $ forget ! 18 refl $ forget ! 16 refl $ part-6 y is-y y-is slots fits-slots slots-are size fits-size size-is begun same-begun begun-is)))))))
@@ -204,7 +202,7 @@ module _ {M : Type 1} (𝓤 : URA M) (H : Heap 𝓤) (A : Atoms 𝓤) (W : Given
 module _ {M : Type 1} (𝓤 : URA M) (H : Heap 𝓤) (A : Atoms 𝓤) (W : Given 𝓤 H A) (mem : Memory → SProp 𝓤) (run : Routine → Fun 𝓤) where
   write-row-walks : (𝓣 : Tables 𝓤 H) → Triple 𝓤 (𝓣 .C #table·load) (load-contract 𝓤 H A mem run) → Triple 𝓤 (𝓣 .C #table·fields·slots-of) (slots-of-contract 𝓤 H A mem run) → Triple 𝓤 (𝓣 .C #numbering·fields·moves-in) (moves-in-contract 𝓤 H A mem run) → Triple 𝓤 (𝓣 .C #plan·write·put-byte) (put-byte-contract 𝓤 H A mem run) → Triple 𝓤 (𝓣 .C #keys·lowest) (lowest-contract 𝓤 H A mem run) → Triple 𝓤 (𝓣 .C #table·next-at) (next-at-contract 𝓤 H A mem run) → Triple 𝓤 (𝓣 .C #table·fields·place-of) (place-of-contract 𝓤 H A mem run) → Triple 𝓤 (𝓣 .C #numbering·write·write-move) (write-move-contract 𝓤 H A mem run) → Triple 𝓤 (𝓣 .C #keys·without-lowest) (without-lowest-contract 𝓤 H A mem run) → Walks 𝓤 H A this.ended stayed (WpFn 𝓤 H (𝓣 .C) (𝓣 .Λ) this-code.function) (this.clauses 𝓤 H A mem run)
   write-row-walks 𝓣 known-load known-slots-of known-moves-in known-put-byte known-lowest known-next-at known-place-of known-write-move known-without-lowest = walked 𝓤 H A this.ended stayed (this.clauses 𝓤 H A mem run) (WpFn 𝓤 H (𝓣 .C) (𝓣 .Λ) this-code.function)
-      (λ κs. (slice-vals, (uint-vals w64, (uint-vals w64, (slice-vals, tt))))) (λ κs. (shr-slice-tells (named 0) (κs .0) Record-row.the-row, (uint-tells w64, (uint-tells w64, (mut-slice-tells (named 1) (κs .1 .0) u8, tt))))) (λ κs qs bounds a g are. needs 𝓤 (WorkLists (a .1 .0) (linksOf ((a .0 .now))) (marksOf ((a .0 .now))) × Shown (a .1 .0) (linksOf ((a .0 .now))) (marksOf ((a .0 .now))) (presentOf ((a .0 .now))) × Numbers (a .1 .0) (statesIn (linksOf ((a .0 .now))) (marksOf ((a .0 .now))) (a .1 .0)) (numbersOf ((a .0 .now))) × List·Memᴰ (a .1 .1 .0) (statesIn (linksOf ((a .0 .now))) (marksOf ((a .0 .now))) (a .1 .0)) × (length (rowBytes (rowIn (linksOf ((a .0 .now))) (marksOf ((a .0 .now))) (a .1 .0) (a .1 .1 .0))) ≤ length ((a .1 .1 .1 .0 .now)))) _ (λ needed. walk 𝓤 H A W mem run (κs .0) (qs .0) (a .0 .ptr .0) (a .0 .ptr .1) (a .0 .name) (a .0 .now) (a .1 .0) (a .1 .1 .0) (κs .1 .0) (qs .1 .0) (a .1 .1 .1 .0 .ptr .0) (a .1 .1 .1 .0 .ptr .1) (a .1 .1 .1 .0 .name) (a .1 .1 .1 .0 .now) (are .0 .0 .1) (are .1 .0 .1) (are .1 .1 .0 .1) (are .1 .1 .1 .0 .0 .1) needed 𝓣 known-load known-slots-of known-moves-in known-put-byte known-lowest known-next-at known-place-of known-write-move known-without-lowest))
+      (λ κs. (slice-vals, (uint-vals w64, (uint-vals w64, (slice-vals, tt))))) (λ κs. (shr-slice-tells (named 0) (κs .0) Record-row.the-row, (uint-tells w64, (uint-tells w64, (mut-slice-tells (named 1) (κs .1 .0) u8, tt))))) (λ κs qs bounds a g are. needs 𝓤 (RowToWrite (a .1 .0) (a .1 .1 .0) ((a .0 .now)) ((a .1 .1 .1 .0 .now))) _ (λ needed. walk 𝓤 H A W mem run (κs .0) (qs .0) (a .0 .ptr .0) (a .0 .ptr .1) (a .0 .name) (a .0 .now) (a .1 .0) (a .1 .1 .0) (κs .1 .0) (qs .1 .0) (a .1 .1 .1 .0 .ptr .0) (a .1 .1 .1 .0 .ptr .1) (a .1 .1 .1 .0 .name) (a .1 .1 .1 .0 .now) (are .0 .0 .1) (are .1 .0 .1) (are .1 .1 .0 .1) (are .1 .1 .1 .0 .0 .1) needed 𝓣 known-load known-slots-of known-moves-in known-put-byte known-lowest known-next-at known-place-of known-write-move known-without-lowest))
 
   write-row-meets : (𝓣 : Tables 𝓤 H) → Triple 𝓤 (𝓣 .C #table·load) (load-contract 𝓤 H A mem run) → Triple 𝓤 (𝓣 .C #table·fields·slots-of) (slots-of-contract 𝓤 H A mem run) → Triple 𝓤 (𝓣 .C #numbering·fields·moves-in) (moves-in-contract 𝓤 H A mem run) → Triple 𝓤 (𝓣 .C #plan·write·put-byte) (put-byte-contract 𝓤 H A mem run) → Triple 𝓤 (𝓣 .C #keys·lowest) (lowest-contract 𝓤 H A mem run) → Triple 𝓤 (𝓣 .C #table·next-at) (next-at-contract 𝓤 H A mem run) → Triple 𝓤 (𝓣 .C #table·fields·place-of) (place-of-contract 𝓤 H A mem run) → Triple 𝓤 (𝓣 .C #numbering·write·write-move) (write-move-contract 𝓤 H A mem run) → Triple 𝓤 (𝓣 .C #keys·without-lowest) (without-lowest-contract 𝓤 H A mem run) → Meets 𝓤 H A this.signature (WpFn 𝓤 H (𝓣 .C) (𝓣 .Λ) this-code.function) (this.spec 𝓤 H A mem run)
   write-row-meets 𝓣 known-load known-slots-of known-moves-in known-put-byte known-lowest known-next-at known-place-of known-write-move known-without-lowest = walk-meets 𝓤 H A this.ended stayed W (goes-none-slice 𝓤 H A W 2 (0 ∷ []) tt (plain (λ _. Record-row.the-row)) yes, (goes-none 𝓤 H A W 2 (λ _. usize) yes (λ κs x f. refl), (goes-none 𝓤 H A W 2 (λ _. usize) yes (λ κs x f. refl), (goes-slice 𝓤 H A W 2 1 tt (plain (λ _. u8)), tt)))) (this.clauses 𝓤 H A mem run)

@@ -1,11 +1,10 @@
 -- `numbering::write::write_rows` meets its contract: a walk of its code, written by tools/walk from walks/write/write_rows.walk.
 -- Assumes nothing.
-use Rattle.walks.proofs.Logic.{_≡_, refl, subst, _∙_, WellFounded, InvImage·wf, ℕ, _<_, _≤_, _^_, _+_, _-_, arith, List, [], _∷_, lit<, length, Nat·lt-wfRel, URA, fullShare, Ty, named, erased, imm, mut, w8, w16, w32, w64, tyPtr, tyInt, tyBool, tyRef, Val, vint, SProp, ent, Lft, Share, GName, ftrue, flft, Memory, Routine, afterTurn, Heap, Env, Out, Wp, WpFn, Tables, afterSeq, afterBlock, atReturn, Atoms, Fun, tablesOf, givenOf, tables, Given, Item, Sq, runs, anyQ, atRet, ‵, _⊛_, ⋆, _$_, _∵_, !, qed, by, move, keep, split, join, fsplit, fjoin, suffices, done, look, init, store, forget, stop, hop, fld, from, load, lit, addr, and-then, no-more, land, of-opd, bin, assigns, assigns-last, first, blocks, loops, again, Below, exec, returns-within, enter, alloc1, alloc0, params1, pass1, pass0, agg, whole, sub, look-in, fmOf, WpFn-mono, owns, Is, pointee, RefT, sliceTy, sliceVal, MutSlice, ShrSlice, Room, slice-vals, mut-slice-tells, shr-slice-tells, uint-makes, uint-vals, uint-tells, u8, u16, u32, usize, owned, nothing, plain, onEntry, Meets, tripleOf, Triple, entered, cited, says, needs, Stays, stay-none, stay-slice, stay-none-slice, walkOf, goes-none, goes-slice, goes-none-slice, Walks, ends-at, walked, walk-meets, yes}
+use Rattle.walks.proofs.Logic.{_≡_, refl, _∙_, WellFounded, InvImage·wf, ℕ, _<_, _≤_, _^_, _+_, _-_, arith, List, [], _∷_, lit<, length, Nat·lt-wfRel, URA, fullShare, Ty, named, erased, imm, mut, w8, w16, w32, w64, tyPtr, tyInt, tyBool, tyRef, Val, vint, SProp, ent, Lft, Share, GName, ftrue, flft, Memory, Routine, afterTurn, Heap, Env, Out, Wp, WpFn, Tables, afterSeq, afterBlock, atReturn, Atoms, Fun, tablesOf, givenOf, tables, Given, Item, Sq, runs, anyQ, atRet, ‵, _⊛_, ⋆, _$_, _∵_, !, qed, by, move, keep, split, join, fsplit, fjoin, suffices, done, look, init, store, forget, stop, hop, fld, from, load, lit, addr, and-then, no-more, land, of-opd, bin, assigns, assigns-last, first, blocks, loops, again, Below, exec, returns-within, enter, alloc1, alloc0, params1, pass1, pass0, agg, whole, sub, look-in, fmOf, WpFn-mono, owns, Is, pointee, RefT, sliceTy, sliceVal, MutSlice, ShrSlice, Room, slice-vals, mut-slice-tells, shr-slice-tells, uint-makes, uint-vals, uint-tells, u8, u16, u32, usize, owned, nothing, plain, onEntry, Meets, tripleOf, Triple, entered, cited, says, needs, Stays, stay-none, stay-slice, stay-none-slice, walkOf, goes-none, goes-slice, goes-none-slice, Walks, ends-at, walked, walk-meets, yes}
 use Rattle.walks.proofs.Branches.{empty, full, less-fits, below, not-below, tests}
 use Rattle.walks.proofs.Freed.{bare, held, released}
 use Rattle.walks.proofs.Lent.{lentAt, share}
 use Rattle.walks.proofs.Rest.{restOf, withRest, rest-long, lend-rest, regain-rest}
-use denote.Struct.Laws as LL
 use Rattle.numbering.proofs.write.write_rows as this
 use Rattle.numbering.proofs.write.write_rows.Statement as this-stated
 use Rattle.numbering.proofs.write.write_rows.Code as this-code
@@ -15,31 +14,24 @@ use Rattle.numbering.proofs.calls.WriteWide.{calls-wide, wide-contract}
 use Rattle.numbering.proofs.write.wide.Symbol as wide-def
 use Rattle.numbering.proofs.write.wide.Symbol.{name as #numbering·write·wide}
 use Rattle.numbering.proofs.write.wide.Met as wide-thm
-use Rattle.table.proofs.calls.Load.{calls-load, load-contract}
-use Rattle.table.proofs.load.Symbol as load-def
-use Rattle.table.proofs.load.Symbol.{name as #table·load}
-use Rattle.table.proofs.load.Met as load-thm
-use Rattle.numbering.proofs.calls.TableFieldsOrderOf.{calls-order-of, order-of-contract}
-use Rattle.table.proofs.fields.order_of.Symbol as order-of-def
-use Rattle.table.proofs.fields.order_of.Symbol.{name as #table·fields·order-of}
-use Rattle.table.proofs.fields.order_of.Met as order-of-thm
+use Rattle.numbering.proofs.calls.WriteStateAt.{calls-state-at, state-at-contract}
+use Rattle.numbering.proofs.write.state_at.Symbol as state-at-def
+use Rattle.numbering.proofs.write.state_at.Symbol.{name as #numbering·write·state-at}
+use Rattle.numbering.proofs.write.state_at.Met as state-at-thm
+use Rattle.numbering.specs.Table.{rowsAt}
 use Rattle.numbering.proofs.calls.WriteWriteRow.{calls-write-row, write-row-contract}
 use Rattle.numbering.proofs.write.write_row.Symbol as write-row-def
 use Rattle.numbering.proofs.write.write_row.Symbol.{name as #numbering·write·write-row}
 use Rattle.numbering.proofs.write.write_row.Met as write-row-thm
-use Rattle.numbering.specs.Kept.{Shown, WorkLists, rowsIn, statesIn}
-use Rattle.table.specs.Lists.{linksOf, marksOf, numbersOf, orderOf, presentOf}
-use Rattle.numbering.specs.Numbered.{Numbered}
+use Rattle.numbering.specs.Writing.{ToWrite, Wrote}
 use Rattle.model.specs.Plan.{rowsBytes}
-use Rattle.plan.specs.Front.{front}
 use Rattle.numbering.proofs.calls.WriteOffsetOf.{calls-offset-of, offset-of-contract}
 use Rattle.numbering.proofs.write.offset_of.Symbol as offset-of-def
 use Rattle.numbering.proofs.write.offset_of.Symbol.{name as #numbering·write·offset-of}
 use Rattle.numbering.proofs.write.offset_of.Met as offset-of-thm
-use Rattle.numbering.proofs.PlanWritten.{RowsOnTheWay, rows-at, rows-begun, rows-written}
-use Rattle.numbering.proofs.States.{bytes-few, place-there, row-room, rows-on, state-known}
+use Rattle.numbering.proofs.lists.Parts.{WritingRows, rows-begun, rows-next, rows-within, rows-written}
+use Rattle.numbering.proofs.records.States.{bytes-few, more-few, next-row, next-state, row-to-write, rows-done}
 use Rattle.table.proofs.Record as Record-row
-use Rattle.table.proofs.Record.Laws as Record-laws
 use Rattle.table.specs.declared.Record.{Record}
 
 abbrev τ0 : Ty
@@ -57,7 +49,7 @@ abbrev τ3 : Ty
 abbrev stayed : Stays (this.ended .signature .params) (this.ended .kept)
 stayed = (stay-none-slice (0 ∷ []) tt (plain (λ _. Record-row.the-row)) yes, (stay-none (λ _. usize) yes, (stay-none (λ _. u16) yes, (stay-slice (1 ∷ []) tt (plain (λ _. u8)), tt))))
 
-module _ {M : Type 1} (𝓤 : URA M) (H : Heap 𝓤) (A : Atoms 𝓤) (W : Given 𝓤 H A) (mem : Memory → SProp 𝓤) (run : Routine → Fun 𝓤) (κ-work : Lft) (q-work : Share) (b-work o-work : ℕ) (γ-work : GName) (work : List Record) (count : ℕ) (states : ℕ) (κ-out : Lft) (q-out : Share) (b-out o-out : ℕ) (γ-out : GName) (out : List ℕ) (room-work : Room Record-row.the-row (length work)) (fits-count : count < 2 ^ 64) (fits-states : states < 2 ^ 16) (room-out : Room u8 (length out)) (needed : WorkLists count (linksOf (work)) (marksOf (work)) × Shown count (linksOf (work)) (marksOf (work)) (presentOf (work)) × Numbered count (statesIn (linksOf (work)) (marksOf (work)) count) states (orderOf (work)) (numbersOf (work)) × (length (rowsBytes (rowsIn (linksOf (work)) (marksOf (work)) count)) ≤ length (out))) where
+module _ {M : Type 1} (𝓤 : URA M) (H : Heap 𝓤) (A : Atoms 𝓤) (W : Given 𝓤 H A) (mem : Memory → SProp 𝓤) (run : Routine → Fun 𝓤) (κ-work : Lft) (q-work : Share) (b-work o-work : ℕ) (γ-work : GName) (work : List Record) (count : ℕ) (states : ℕ) (κ-out : Lft) (q-out : Share) (b-out o-out : ℕ) (γ-out : GName) (out : List ℕ) (room-work : Room Record-row.the-row (length work)) (fits-count : count < 2 ^ 64) (fits-states : states < 2 ^ 16) (room-out : Room u8 (length out)) (writing : ToWrite (rowsBytes (rowsAt count (work))) count states (work) (out)) where
   abbrev s-work : Val
   s-work = sliceVal (b-work, o-work) (length work)
 
@@ -77,7 +69,7 @@ module _ {M : Type 1} (𝓤 : URA M) (H : Heap 𝓤) (A : Atoms 𝓤) (W : Given
   Ends = walkOf 𝓤 H A this.ended stayed (this.clauses 𝓤 H A mem run) .post (((κ-work, (κ-out, tt)), (q-work, (q-out, tt)), tt, args, machine), tt)
 
   -- what is had at an exit
-  exits : (r : ℕ) (out′ : List ℕ) (fits-res : r < 2 ^ 32) (long-out : length out′ ≡ length out) (said : (r ≡ length (rowsBytes (rowsIn (linksOf (work)) (marksOf (work)) count))) × (out′ ≡ front (rowsBytes (rowsIn (linksOf (work)) (marksOf (work)) count)) (out))) → ent 𝓤 (⋆ 𝓤 H A (‵ (ShrSlice (named 0) κ-work Record-row.the-row .own (lentAt b-work o-work γ-work work) (s-work ∷ [])) ∷ ‵ (flft κ-work q-work) ∷ ‵ (MutSlice (named 1) κ-out u8 .own (lentAt b-out o-out γ-out out′) (s-out ∷ [])) ∷ ‵ (flft κ-out q-out) ∷ [])) (Ends (vint w32 r))
+  exits : (r : ℕ) (out′ : List ℕ) (fits-res : r < 2 ^ 32) (long-out : length out′ ≡ length out) (said : Wrote (rowsBytes (rowsAt count (work))) r (out) (out′)) → ent 𝓤 (⋆ 𝓤 H A (‵ (ShrSlice (named 0) κ-work Record-row.the-row .own (lentAt b-work o-work γ-work work) (s-work ∷ [])) ∷ ‵ (flft κ-work q-work) ∷ ‵ (MutSlice (named 1) κ-out u8 .own (lentAt b-out o-out γ-out out′) (s-out ∷ [])) ∷ ‵ (flft κ-out q-out) ∷ [])) (Ends (vint w32 r))
   exits r out′ fits-res long-out said =
       qed W (‵ (ShrSlice (named 0) κ-work Record-row.the-row .own (lentAt b-work o-work γ-work work) (s-work ∷ [])) ∷ ‵ (flft κ-work q-work) ∷ ‵ (MutSlice (named 1) κ-out u8 .own (lentAt b-out o-out γ-out out′) (s-out ∷ [])) ∷ ‵ (flft κ-out q-out) ∷ []) ∵
       suffices ! _ (ends-at 𝓤 H A this.ended stayed (this.clauses 𝓤 H A mem run) W (((κ-work, (κ-out, tt)), (q-work, (q-out, tt)), tt, args, machine), tt) (vint w32 r) r (tt, (tt, (tt, (out′, tt)))) (tt, (tt, (tt, (long-out, tt))))) $ says ! said $
@@ -85,7 +77,7 @@ module _ {M : Type 1} (𝓤 : URA M) (H : Heap 𝓤) (A : Atoms 𝓤) (W : Given
 
   -- what the loop's head knows
   abbrev State : Type 0
-  State = (at : ℕ) × ((p : ℕ) × ((outs : List ℕ) × ((at < 2 ^ 64) × ((p < 2 ^ 64) × ((length outs ≡ length out) × ((RowsOnTheWay (linksOf work) (marksOf work) count states out outs at p)))))))
+  State = (at : ℕ) × ((p : ℕ) × ((outs : List ℕ) × ((at < 2 ^ 64) × ((p < 2 ^ 64) × ((length outs ≡ length out) × ((WritingRows (rowsAt count work) p at out outs)))))))
 
   abbrev measure : ℕ → ℕ → (List ℕ) → ℕ
   measure at p outs = states - p
@@ -96,21 +88,21 @@ module _ {M : Type 1} (𝓤 : URA M) (H : Heap 𝓤) (A : Atoms 𝓤) (W : Given
   Nearer-wf : WellFounded Nearer
   Nearer-wf = InvImage·wf (λ (t : State). measure (t .0) (t .1 .0) (t .1 .1 .0)) (Nat·lt-wfRel .wf)
 
-  module _ (𝓣 : Tables 𝓤 H) (known-wide : Triple 𝓤 (𝓣 .C #numbering·write·wide) (wide-contract 𝓤 H A mem run)) (known-load : Triple 𝓤 (𝓣 .C #table·load) (load-contract 𝓤 H A mem run)) (known-order-of : Triple 𝓤 (𝓣 .C #table·fields·order-of) (order-of-contract 𝓤 H A mem run)) (known-write-row : Triple 𝓤 (𝓣 .C #numbering·write·write-row) (write-row-contract 𝓤 H A mem run)) (known-offset-of : Triple 𝓤 (𝓣 .C #numbering·write·offset-of) (offset-of-contract 𝓤 H A mem run)) where
-    module _ (l0 l1 l2 l3 l4 l5 l6 l7 l8 l9 l10 l11 l12 l13 l14 l15 : ℕ) where
+  module _ (𝓣 : Tables 𝓤 H) (known-wide : Triple 𝓤 (𝓣 .C #numbering·write·wide) (wide-contract 𝓤 H A mem run)) (known-state-at : Triple 𝓤 (𝓣 .C #numbering·write·state-at) (state-at-contract 𝓤 H A mem run)) (known-write-row : Triple 𝓤 (𝓣 .C #numbering·write·write-row) (write-row-contract 𝓤 H A mem run)) (known-offset-of : Triple 𝓤 (𝓣 .C #numbering·write·offset-of) (offset-of-contract 𝓤 H A mem run)) where
+    module _ (l0 l1 l2 l3 l4 l5 l6 l7 l8 l9 l10 l11 l12 l13 l14 : ℕ) where
       abbrev En : Env 𝓤 H
-      En = ((tyInt w32), l0) ∷ (τ0, l1) ∷ ((tyInt w64), l2) ∷ ((tyInt w16), l3) ∷ (τ1, l4) ∷ ((tyInt w64), l5) ∷ ((tyInt w64), l6) ∷ ((tyInt w64), l7) ∷ (Record-laws.mir, l8) ∷ (tyBool, l9) ∷ ((tyInt w64), l10) ∷ ((tyInt w64), l11) ∷ (tyPtr, l12) ∷ ((tyInt w64), l13) ∷ (τ2, l14) ∷ (τ3, l15) ∷ []
+      En = ((tyInt w32), l0) ∷ (τ0, l1) ∷ ((tyInt w64), l2) ∷ ((tyInt w16), l3) ∷ (τ1, l4) ∷ ((tyInt w64), l5) ∷ ((tyInt w64), l6) ∷ ((tyInt w64), l7) ∷ ((tyInt w64), l8) ∷ (tyBool, l9) ∷ ((tyInt w64), l10) ∷ (tyPtr, l11) ∷ ((tyInt w64), l12) ∷ (τ2, l13) ∷ (τ3, l14) ∷ []
 
-      part-7 : (last : ℕ) (fits-last : last < 2 ^ 64) (last-is : last ≡ states) (at : ℕ) (p : ℕ) (outs : List ℕ) (fits-at : at < 2 ^ 64) (fits-p : p < 2 ^ 64) (long-outs : length outs ≡ length out) (known : RowsOnTheWay (linksOf work) (marksOf work) count states out outs at p) (over : last ≤ p) → Sq W (‵ (ShrSlice (named 0) κ-work Record-row.the-row .own (lentAt b-work o-work γ-work work) (s-work ∷ [])) ∷ ‵ (flft κ-work q-work) ∷ ‵ (MutSlice (named 1) κ-out u8 .own (lentAt b-out o-out γ-out outs) (s-out ∷ [])) ∷ ‵ (flft κ-out q-out) ∷ empty τ3 l15 (empty τ2 l14 (empty (tyInt w64) l13 (empty tyPtr l12 (empty (tyInt w64) l11 (empty (tyInt w64) l10 (empty tyBool l9 (empty Record-laws.mir l8 (empty (tyInt w64) l7 (full (tyInt w64) l6 (vint w64 at) (empty (tyInt w64) l5 (empty τ1 l4 (empty (tyInt w16) l3 (empty (tyInt w64) l2 (empty τ0 l1 (empty (tyInt w32) l0 ([]))))))))))))))))) (runs (𝓣 .C) (𝓣 .Λ) En this-mir.t-5 (atRet En Ends))
-      part-7 last fits-last last-is at p outs fits-at fits-p long-outs known over =
-          calls-offset-of 𝓤 H A W mem run at (fmOf 𝓤 H (W .laws) 𝓣) known-offset-of fits-at (bytes-few work (needed .0) (needed .2 .in-order) (known .measured))
-          (and-then ! (load ! (from ! (stop !)) (look ! 23 refl)) (no-more !)) (λ answer fits-answer answer-is.
-          land ! (from ! (stop !)) (init ! 34 refl (tt, record { fits = fits-answer })) $
-          returns-within ! Ends refl (look ! 34 refl) $ released ! (‵ (ShrSlice (named 0) κ-work Record-row.the-row .own (lentAt b-work o-work γ-work work) (s-work ∷ [])) ∷ ‵ (flft κ-work q-work) ∷ ‵ (MutSlice (named 1) κ-out u8 .own (lentAt b-out o-out γ-out outs) (s-out ∷ [])) ∷ ‵ (flft κ-out q-out) ∷ []) (held (tyInt w32) l0 (vint w32 answer) ∷ bare τ0 l1 ∷ bare (tyInt w64) l2 ∷ bare (tyInt w16) l3 ∷ bare τ1 l4 ∷ bare (tyInt w64) l5 ∷ held (tyInt w64) l6 (vint w64 at) ∷ bare (tyInt w64) l7 ∷ bare Record-laws.mir l8 ∷ bare tyBool l9 ∷ bare (tyInt w64) l10 ∷ bare (tyInt w64) l11 ∷ bare tyPtr l12 ∷ bare (tyInt w64) l13 ∷ bare τ2 l14 ∷ bare τ3 l15 ∷ []) $ by ! (exits answer outs fits-answer long-outs (answer-is ∙ rows-written (needed .2 .in-order) known (subst (λ (m : ℕ). m ≤ p) last-is over) .0, rows-written (needed .2 .in-order) known (subst (λ (m : ℕ). m ≤ p) last-is over) .1)))
+      part-6 : (last : ℕ) (fits-last : last < 2 ^ 64) (last-is : last ≡ states) (at : ℕ) (p : ℕ) (outs : List ℕ) (fits-at : at < 2 ^ 64) (fits-p : p < 2 ^ 64) (long-outs : length outs ≡ length out) (known : WritingRows (rowsAt count work) p at out outs) (over : last ≤ p) → Sq W (‵ (ShrSlice (named 0) κ-work Record-row.the-row .own (lentAt b-work o-work γ-work work) (s-work ∷ [])) ∷ ‵ (flft κ-work q-work) ∷ ‵ (MutSlice (named 1) κ-out u8 .own (lentAt b-out o-out γ-out outs) (s-out ∷ [])) ∷ ‵ (flft κ-out q-out) ∷ empty τ3 l14 (empty τ2 l13 (empty (tyInt w64) l12 (empty tyPtr l11 (empty (tyInt w64) l10 (empty tyBool l9 (empty (tyInt w64) l8 (empty (tyInt w64) l7 (full (tyInt w64) l6 (vint w64 at) (empty (tyInt w64) l5 (empty τ1 l4 (empty (tyInt w16) l3 (empty (tyInt w64) l2 (empty τ0 l1 (empty (tyInt w32) l0 ([])))))))))))))))) (runs (𝓣 .C) (𝓣 .Λ) En this-mir.t-5 (atRet En Ends))
+      part-6 last fits-last last-is at p outs fits-at fits-p long-outs known over =
+          calls-offset-of 𝓤 H A W mem run at (fmOf 𝓤 H (W .laws) 𝓣) known-offset-of fits-at (bytes-few work (writing .table) (known .measured))
+          (and-then ! (load ! (from ! (stop !)) (look ! 21 refl)) (no-more !)) (λ answer fits-answer answer-is.
+          land ! (from ! (stop !)) (init ! 32 refl (tt, record { fits = fits-answer })) $
+          returns-within ! Ends refl (look ! 32 refl) $ released ! (‵ (ShrSlice (named 0) κ-work Record-row.the-row .own (lentAt b-work o-work γ-work work) (s-work ∷ [])) ∷ ‵ (flft κ-work q-work) ∷ ‵ (MutSlice (named 1) κ-out u8 .own (lentAt b-out o-out γ-out outs) (s-out ∷ [])) ∷ ‵ (flft κ-out q-out) ∷ []) (held (tyInt w32) l0 (vint w32 answer) ∷ bare τ0 l1 ∷ bare (tyInt w64) l2 ∷ bare (tyInt w16) l3 ∷ bare τ1 l4 ∷ bare (tyInt w64) l5 ∷ held (tyInt w64) l6 (vint w64 at) ∷ bare (tyInt w64) l7 ∷ bare (tyInt w64) l8 ∷ bare tyBool l9 ∷ bare (tyInt w64) l10 ∷ bare tyPtr l11 ∷ bare (tyInt w64) l12 ∷ bare τ2 l13 ∷ bare τ3 l14 ∷ []) $ by ! (exits answer outs fits-answer long-outs (rows-written (writing .room) known (rows-done work (writing .table) over last-is) answer-is)))
 
       module _ (last : ℕ) (fits-last : last < 2 ^ 64) (last-is : last ≡ states) where
         abbrev head : ℕ → ℕ → (List ℕ) → List (Item 𝓤)
-        head at p outs = ‵ (ShrSlice (named 0) κ-work Record-row.the-row .own (lentAt b-work o-work γ-work work) (s-work ∷ [])) ∷ ‵ (flft κ-work q-work) ∷ ‵ (MutSlice (named 1) κ-out u8 .own (lentAt b-out o-out γ-out outs) (s-out ∷ [])) ∷ ‵ (flft κ-out q-out) ∷ empty τ3 l15 (empty τ2 l14 (empty (tyInt w64) l13 (empty tyPtr l12 (empty (tyInt w64) l11 (empty (tyInt w64) l10 (empty tyBool l9 (empty Record-laws.mir l8 (full (tyInt w64) l7 (vint w64 p) (full (tyInt w64) l6 (vint w64 at) (full (tyInt w64) l5 (vint w64 last) (full τ1 l4 (s-out) (empty (tyInt w16) l3 (full (tyInt w64) l2 (vint w64 count) (full τ0 l1 (s-work) (empty (tyInt w32) l0 ([]))))))))))))))))
+        head at p outs = ‵ (ShrSlice (named 0) κ-work Record-row.the-row .own (lentAt b-work o-work γ-work work) (s-work ∷ [])) ∷ ‵ (flft κ-work q-work) ∷ ‵ (MutSlice (named 1) κ-out u8 .own (lentAt b-out o-out γ-out outs) (s-out ∷ [])) ∷ ‵ (flft κ-out q-out) ∷ empty τ3 l14 (empty τ2 l13 (empty (tyInt w64) l12 (empty tyPtr l11 (empty (tyInt w64) l10 (empty tyBool l9 (empty (tyInt w64) l8 (full (tyInt w64) l7 (vint w64 p) (full (tyInt w64) l6 (vint w64 at) (full (tyInt w64) l5 (vint w64 last) (full τ1 l4 (s-out) (full (tyInt w16) l3 (vint w16 states) (full (tyInt w64) l2 (vint w64 count) (full τ0 l1 (s-work) (empty (tyInt w32) l0 ([])))))))))))))))
 
         abbrev At : State → List (Item 𝓤)
         At t = head (t .0) (t .1 .0) (t .1 .1 .0)
@@ -118,59 +110,56 @@ module _ {M : Type 1} (𝓤 : URA M) (H : Heap 𝓤) (A : Atoms 𝓤) (W : Given
         abbrev Turned : State → Out → SProp 𝓤
         Turned t = afterTurn 𝓤 H (Below 𝓤 H A Nearer At t) (afterBlock 𝓤 H (afterSeq 𝓤 H (Wp 𝓤 H (𝓣 .C) (𝓣 .Λ) En this-mir.t-5 (atReturn 𝓤 H En Ends)) (atReturn 𝓤 H En Ends)))
 
-        turn : (at : ℕ) (p : ℕ) (outs : List ℕ) (fits-at : at < 2 ^ 64) (fits-p : p < 2 ^ 64) (long-outs : length outs ≡ length out) (known : RowsOnTheWay (linksOf work) (marksOf work) count states out outs at p) → Sq W (head at p outs) (runs (𝓣 .C) (𝓣 .Λ) En this-mir.turn-1 (anyQ (Turned (at, (p, (outs, (fits-at, (fits-p, (long-outs, (known))))))))))
+        turn : (at : ℕ) (p : ℕ) (outs : List ℕ) (fits-at : at < 2 ^ 64) (fits-p : p < 2 ^ 64) (long-outs : length outs ≡ length out) (known : WritingRows (rowsAt count work) p at out outs) → Sq W (head at p outs) (runs (𝓣 .C) (𝓣 .Λ) En this-mir.turn-1 (anyQ (Turned (at, (p, (outs, (fits-at, (fits-p, (long-outs, (known))))))))))
         unfolding afterTurn
         turn at p outs fits-at fits-p long-outs known =
-            assigns ! (bin ! (load ! (from ! (stop !)) (look ! 20 refl)) (load ! (from ! (stop !)) (look ! 24 refl)) tt) (from ! (stop !)) (init ! 16 refl (tt, tt)) $
-            tests ! (load ! (from ! (stop !)) (look ! 16 refl)) (below p last) (not-below p last)
+            assigns ! (bin ! (load ! (from ! (stop !)) (look ! 18 refl)) (load ! (from ! (stop !)) (look ! 22 refl)) tt) (from ! (stop !)) (init ! 14 refl (tt, tt)) $
+            tests ! (load ! (from ! (stop !)) (look ! 14 refl)) (below p last) (not-below p last)
             (λ less. share ! Record-row.the-row (named 0) κ-work (lentAt b-work o-work γ-work work) (s-work ∷ []) (move ! (2 ∷ 0 ∷ []) $
-            calls-load 𝓤 H A W mem run κ-work q-work (lentAt b-work o-work γ-work work) s-work p (fmOf 𝓤 H (W .laws) 𝓣) known-load fits-p (place-there work (needed .0) (needed .2 .in-order) (subst (λ (m : ℕ). p < m) last-is less))
-            (and-then ! (load ! (from ! (stop !)) (look ! 32 refl)) (and-then ! (load ! (from ! (stop !)) (look ! 20 refl)) (no-more !))) (λ s is-s s-is.
-            move ! (1 ∷ 0 ∷ 2 ∷ 3 ∷ []) $ land ! (from ! (stop !)) (init ! 18 refl (LL.lawful Record-row.the-type Record-laws.the-laws 𝓤 H A W .typed s _ is-s .0)) $
-            calls-order-of 𝓤 H A W mem run s (fmOf 𝓤 H (W .laws) 𝓣) known-order-of is-s
-            (and-then ! (load ! (from ! (stop !)) (look ! 19 refl)) (no-more !)) (λ i fits-i i-is.
-            land ! (from ! (stop !)) (init ! 12 refl (tt, record { fits = fits-i })) $
-            assigns ! (bin ! (load ! (from ! (fld ! refl (stop !))) (look-in ! 26 (sub ! 0 refl (whole !)))) (load ! (from ! (stop !)) (look ! 22 refl)) tt) (from ! (stop !)) (init ! 10 refl (tt, tt)) $
-            assigns ! (bin ! (load ! (from ! (fld ! refl (stop !))) (look-in ! 26 (sub ! 1 refl (whole !)))) (load ! (from ! (stop !)) (look ! 22 refl)) (omega (arith, rows-at (needed .2 .in-order) known, long-outs))) (from ! (stop !)) (init ! 8 refl (tt, record { fits = (less-fits (length out) at (room-out .0)) })) $
+            calls-state-at 𝓤 H A W mem run κ-work q-work (lentAt b-work o-work γ-work work) s-work count states p (fmOf 𝓤 H (W .laws) 𝓣) known-state-at fits-count fits-states fits-p (next-state work (writing .table) less last-is)
+            (and-then ! (load ! (from ! (stop !)) (look ! 30 refl)) (and-then ! (load ! (from ! (stop !)) (look ! 28 refl)) (and-then ! (load ! (from ! (stop !)) (look ! 26 refl)) (and-then ! (load ! (from ! (stop !)) (look ! 18 refl)) (no-more !))))) (λ i fits-i i-is.
+            move ! (1 ∷ 0 ∷ 2 ∷ 3 ∷ []) $ land ! (from ! (stop !)) (init ! 16 refl (tt, record { fits = fits-i })) $
+            assigns ! (bin ! (load ! (from ! (fld ! refl (stop !))) (look-in ! 24 (sub ! 0 refl (whole !)))) (load ! (from ! (stop !)) (look ! 20 refl)) tt) (from ! (stop !)) (init ! 10 refl (tt, tt)) $
+            assigns ! (bin ! (load ! (from ! (fld ! refl (stop !))) (look-in ! 24 (sub ! 1 refl (whole !)))) (load ! (from ! (stop !)) (look ! 20 refl)) (omega (arith, rows-within (writing .room) known, long-outs))) (from ! (stop !)) (init ! 8 refl (tt, record { fits = (less-fits (length out) at (room-out .0)) })) $
             assigns ! (addr ! (from ! (hop ! (look ! 10 refl) (stop !)))) (from ! (stop !)) (init ! 6 refl (tt, tt)) $
             assigns ! (agg ! (and-then ! (load ! (from ! (stop !)) (look ! 6 refl)) (and-then ! (load ! (from ! (stop !)) (look ! 8 refl)) (no-more !)))) (from ! (stop !)) (init ! 4 refl (tt, (tt, (record { fits = less-fits (length out) at (room-out .0) }, tt)))) $
-            share ! Record-row.the-row (named 0) κ-work (lentAt b-work o-work γ-work work) (s-work ∷ []) (move ! (3 ∷ 4 ∷ []) $ lend-rest κ-out q-out γ-out b-out o-out (length out) at outs long-outs (omega (arith, rows-at (needed .2 .in-order) known, long-outs)) ! tt (named 1) (λ ν-6-out δ-6-out. move ! (5 ∷ 3 ∷ 0 ∷ 1 ∷ []) $
-            calls-write-row 𝓤 H A W mem run κ-work q-work (lentAt b-work o-work γ-work work) s-work count i (ν-6-out ∷ []) fullShare (lentAt b-out (at + o-out) δ-6-out (restOf at outs)) (sliceVal (b-out, at + o-out) (length out - at)) (fmOf 𝓤 H (W .laws) 𝓣) known-write-row fits-count fits-i (needed .0, needed .1, needed .2 .has-numbers, state-known work (needed .0) (needed .2 .in-order) (subst (λ (m : ℕ). p < m) last-is less) s-is i-is, row-room work (needed .0) (needed .2 .in-order) (subst (λ (m : ℕ). p < m) last-is less) s-is i-is known)
-            (and-then ! (load ! (from ! (stop !)) (look ! 31 refl)) (and-then ! (load ! (from ! (stop !)) (look ! 29 refl)) (and-then ! (load ! (from ! (stop !)) (look ! 11 refl)) (and-then ! (load ! (from ! (stop !)) (look ! 3 refl)) (no-more !))))) (λ row written fits-row same-written row-is.
-            move ! (1 ∷ 3 ∷ 2 ∷ []) $ regain-rest κ-out q-out γ-out b-out o-out (length out) at outs long-outs (omega (arith, rows-at (needed .2 .in-order) known, long-outs)) ! tt (named 1) ν-6-out δ-6-out written (move ! (3 ∷ 2 ∷ 0 ∷ 1 ∷ []) $ land ! (from ! (stop !)) (init ! 14 refl (tt, record { fits = fits-row })) $
-            assigns ! (bin ! (load ! (from ! (stop !)) (look ! 22 refl)) (load ! (from ! (stop !)) (look ! 14 refl)) (record { fits = omega (arith, bytes-few work (needed .0) (needed .2 .in-order) (rows-on work (needed .0) (needed .2 .in-order) (subst (λ (m : ℕ). p < m) last-is less) s-is i-is known row-is .measured)) })) (from ! (stop !)) (store ! 22 refl (tt, record { fits = (omega (arith, bytes-few work (needed .0) (needed .2 .in-order) (rows-on work (needed .0) (needed .2 .in-order) (subst (λ (m : ℕ). p < m) last-is less) s-is i-is known row-is .measured))) })) $
-            assigns-last ! (bin ! (load ! (from ! (stop !)) (look ! 20 refl)) (lit ! tt) (record { fits = omega (arith, less, fits-last) })) (from ! (stop !)) (store ! 20 refl (tt, record { fits = (omega (arith, less, fits-last)) })) $
-            forget ! 18 refl $ forget ! 16 refl $ forget ! 14 refl $ forget ! 12 refl $ forget ! 10 refl $ forget ! 8 refl $ forget ! 6 refl $ forget ! 4 refl $ again ! Nearer At (at, (p, (outs, (fits-at, (fits-p, (long-outs, (known))))))) ((at + row), ((p + 1), ((withRest at outs written), ((omega (arith, bytes-few work (needed .0) (needed .2 .in-order) (rows-on work (needed .0) (needed .2 .in-order) (subst (λ (m : ℕ). p < m) last-is less) s-is i-is known row-is .measured))), ((omega (arith, less, fits-last)), ((rest-long at outs written same-written ∙ long-outs), (rows-on work (needed .0) (needed .2 .in-order) (subst (λ (m : ℕ). p < m) last-is less) s-is i-is known row-is))))))) (omega (arith, less, last-is))))))))))
+            share ! Record-row.the-row (named 0) κ-work (lentAt b-work o-work γ-work work) (s-work ∷ []) (move ! (3 ∷ 4 ∷ []) $ lend-rest κ-out q-out γ-out b-out o-out (length out) at outs long-outs (omega (arith, rows-within (writing .room) known, long-outs)) ! tt (named 1) (λ ν-5-out δ-5-out. move ! (5 ∷ 3 ∷ 0 ∷ 1 ∷ []) $
+            calls-write-row 𝓤 H A W mem run κ-work q-work (lentAt b-work o-work γ-work work) s-work count i (ν-5-out ∷ []) fullShare (lentAt b-out (at + o-out) δ-5-out (restOf at outs)) (sliceVal (b-out, at + o-out) (length out - at)) (fmOf 𝓤 H (W .laws) 𝓣) known-write-row fits-count fits-i (row-to-write work (writing .table) less last-is i-is (writing .room) known)
+            (and-then ! (load ! (from ! (stop !)) (look ! 29 refl)) (and-then ! (load ! (from ! (stop !)) (look ! 27 refl)) (and-then ! (load ! (from ! (stop !)) (look ! 15 refl)) (and-then ! (load ! (from ! (stop !)) (look ! 3 refl)) (no-more !))))) (λ row written fits-row same-written row-is.
+            move ! (1 ∷ 3 ∷ 2 ∷ []) $ regain-rest κ-out q-out γ-out b-out o-out (length out) at outs long-outs (omega (arith, rows-within (writing .room) known, long-outs)) ! tt (named 1) ν-5-out δ-5-out written (move ! (3 ∷ 2 ∷ 0 ∷ 1 ∷ []) $ land ! (from ! (stop !)) (init ! 12 refl (tt, record { fits = fits-row })) $
+            assigns ! (bin ! (load ! (from ! (stop !)) (look ! 20 refl)) (load ! (from ! (stop !)) (look ! 12 refl)) (record { fits = omega (arith, more-few work (writing .table) less last-is i-is (known .measured) (row-is .size-is)) })) (from ! (stop !)) (store ! 20 refl (tt, record { fits = (omega (arith, more-few work (writing .table) less last-is i-is (known .measured) (row-is .size-is))) })) $
+            assigns-last ! (bin ! (load ! (from ! (stop !)) (look ! 18 refl)) (lit ! tt) (record { fits = omega (arith, less, fits-last) })) (from ! (stop !)) (store ! 18 refl (tt, record { fits = (omega (arith, less, fits-last)) })) $
+            forget ! 16 refl $ forget ! 14 refl $ forget ! 12 refl $ forget ! 10 refl $ forget ! 8 refl $ forget ! 6 refl $ forget ! 4 refl $ again ! Nearer At (at, (p, (outs, (fits-at, (fits-p, (long-outs, (known))))))) ((at + row), ((p + 1), ((withRest at outs written), ((omega (arith, more-few work (writing .table) less last-is i-is (known .measured) (row-is .size-is))), ((omega (arith, less, fits-last)), ((rest-long at outs written same-written ∙ long-outs), (rows-next (writing .room) known (next-row work (writing .table) less last-is i-is) row-is))))))) (omega (arith, less, last-is)))))))))
             (λ over. exec ! (𝓣 .C) (𝓣 .Λ) En this-mir.t-5 (atRet En Ends) $
-            forget ! 32 refl $ forget ! 30 refl $ forget ! 26 refl $ forget ! 24 refl $ forget ! 20 refl $ forget ! 16 refl $ part-7 last fits-last last-is at p outs fits-at fits-p long-outs known over)
+            forget ! 30 refl $ forget ! 28 refl $ forget ! 26 refl $ forget ! 24 refl $ forget ! 22 refl $ forget ! 18 refl $ forget ! 14 refl $ part-6 last fits-last last-is at p outs fits-at fits-p long-outs known over)
 
         turns : (t : State) → Sq W (At t) (runs (𝓣 .C) (𝓣 .Λ) En this-mir.turn-1 (anyQ (Turned t)))
         turns t = turn (t .0) (t .1 .0) (t .1 .1 .0) (t .1 .1 .1 .0) (t .1 .1 .1 .1 .0) (t .1 .1 .1 .1 .1 .0) (t .1 .1 .1 .1 .1 .1)
 
-      part-1 : Sq W (‵ (ShrSlice (named 0) κ-work Record-row.the-row .own (lentAt b-work o-work γ-work work) (s-work ∷ [])) ∷ ‵ (flft κ-work q-work) ∷ ‵ (MutSlice (named 1) κ-out u8 .own (lentAt b-out o-out γ-out out) (s-out ∷ [])) ∷ ‵ (flft κ-out q-out) ∷ empty τ3 l15 (empty τ2 l14 (empty (tyInt w64) l13 (empty tyPtr l12 (empty (tyInt w64) l11 (empty (tyInt w64) l10 (empty tyBool l9 (empty Record-laws.mir l8 (empty (tyInt w64) l7 (empty (tyInt w64) l6 (empty (tyInt w64) l5 (full τ1 l4 (s-out) (full (tyInt w16) l3 (vint w16 states) (full (tyInt w64) l2 (vint w64 count) (full τ0 l1 (s-work) (empty (tyInt w32) l0 ([]))))))))))))))))) (runs (𝓣 .C) (𝓣 .Λ) En this-mir.t-1 (atRet En Ends))
+      part-1 : Sq W (‵ (ShrSlice (named 0) κ-work Record-row.the-row .own (lentAt b-work o-work γ-work work) (s-work ∷ [])) ∷ ‵ (flft κ-work q-work) ∷ ‵ (MutSlice (named 1) κ-out u8 .own (lentAt b-out o-out γ-out out) (s-out ∷ [])) ∷ ‵ (flft κ-out q-out) ∷ empty τ3 l14 (empty τ2 l13 (empty (tyInt w64) l12 (empty tyPtr l11 (empty (tyInt w64) l10 (empty tyBool l9 (empty (tyInt w64) l8 (empty (tyInt w64) l7 (empty (tyInt w64) l6 (empty (tyInt w64) l5 (full τ1 l4 (s-out) (full (tyInt w16) l3 (vint w16 states) (full (tyInt w64) l2 (vint w64 count) (full τ0 l1 (s-work) (empty (tyInt w32) l0 ([])))))))))))))))) (runs (𝓣 .C) (𝓣 .Λ) En this-mir.t-1 (atRet En Ends))
       part-1 =
           calls-wide 𝓤 H A W mem run states (fmOf 𝓤 H (W .laws) 𝓣) known-wide fits-states
-          (and-then ! (load ! (from ! (stop !)) (look ! 29 refl)) (no-more !)) (λ last fits-last last-is.
-          land ! (from ! (stop !)) (init ! 24 refl (tt, record { fits = fits-last })) $
-          assigns ! (of-opd ! (lit ! tt)) (from ! (stop !)) (init ! 22 refl (tt, record { fits = lit< tt })) $
+          (and-then ! (load ! (from ! (stop !)) (look ! 27 refl)) (no-more !)) (λ last fits-last last-is.
+          land ! (from ! (stop !)) (init ! 22 refl (tt, record { fits = fits-last })) $
           assigns ! (of-opd ! (lit ! tt)) (from ! (stop !)) (init ! 20 refl (tt, record { fits = lit< tt })) $
-          forget ! 28 refl $ first ! $ blocks ! $ loops ! 𝓣 Nearer Nearer-wf (At last fits-last last-is) (turns last fits-last last-is) (0, (0, (out, (lit< tt, (lit< tt, (refl, (rows-begun states (needed .3)))))))))
+          assigns ! (of-opd ! (lit ! tt)) (from ! (stop !)) (init ! 18 refl (tt, record { fits = lit< tt })) $
+          first ! $ blocks ! $ loops ! 𝓣 Nearer Nearer-wf (At last fits-last last-is) (turns last fits-last last-is) (0, (0, (out, (lit< tt, (lit< tt, (refl, (rows-begun (rowsAt count work) out))))))))
 
     walk : ent 𝓤 (onEntry 𝓤 H A this.signature (κ-work, (κ-out, tt)) (q-work, (q-out, tt)) args machine) (WpFn 𝓤 H (𝓣 .C) (𝓣 .Λ) this-code.function (s-work ∷ vint w64 count ∷ vint w16 states ∷ s-out ∷ []) Ends)
     walk =
         qed W ((‵ (flft κ-work q-work) ⊛ ‵ (flft κ-out q-out) ⊛ ‵ ftrue) ∷ ‵ (owns (ShrSlice (named 0) κ-work Record-row.the-row ∷ usize ∷ u16 ∷ MutSlice (named 1) κ-out u8 ∷ []) args machine) ∷ []) ∵ split ! $ move ! (1 ∷ []) $ split ! $ move ! (3 ∷ []) $ fsplit ! $ move ! (1 ∷ []) $ fsplit ! $ move ! (1 ∷ []) $ fsplit ! $ move ! (1 ∷ []) $ fsplit ! $ keep ! (4 ∷ 7 ∷ 0 ∷ 5 ∷ []) $
         enter ! (𝓣 .C) (𝓣 .Λ) this-code.function (s-work ∷ vint w64 count ∷ vint w16 states ∷ s-out ∷ []) _ $
-        alloc1 ! (λ l0. alloc1 ! (λ l1. alloc1 ! (λ l2. alloc1 ! (λ l3. alloc1 ! (λ l4. alloc1 ! (λ l5. alloc1 ! (λ l6. alloc1 ! (λ l7. alloc1 ! (λ l8. alloc1 ! (λ l9. alloc1 ! (λ l10. alloc1 ! (λ l11. alloc1 ! (λ l12. alloc1 ! (λ l13. alloc1 ! (λ l14. alloc1 ! (λ l15. alloc0 ! $ params1 ! $
-        pass1 ! (init ! 28 refl (tt, (tt, (record { fits = room-work .0 }, tt)))) $ pass1 ! (init ! 26 refl (tt, record { fits = fits-count })) $ pass1 ! (init ! 24 refl (tt, record { fits = fits-states })) $ pass1 ! (init ! 22 refl (tt, (tt, (record { fits = room-out .0 }, tt)))) $ pass0 ! $ move ! (32 ∷ 33 ∷ 34 ∷ 35 ∷ []) $ part-1 l0 l1 l2 l3 l4 l5 l6 l7 l8 l9 l10 l11 l12 l13 l14 l15))))))))))))))))
+        alloc1 ! (λ l0. alloc1 ! (λ l1. alloc1 ! (λ l2. alloc1 ! (λ l3. alloc1 ! (λ l4. alloc1 ! (λ l5. alloc1 ! (λ l6. alloc1 ! (λ l7. alloc1 ! (λ l8. alloc1 ! (λ l9. alloc1 ! (λ l10. alloc1 ! (λ l11. alloc1 ! (λ l12. alloc1 ! (λ l13. alloc1 ! (λ l14. alloc0 ! $ params1 ! $
+        pass1 ! (init ! 26 refl (tt, (tt, (record { fits = room-work .0 }, tt)))) $ pass1 ! (init ! 24 refl (tt, record { fits = fits-count })) $ pass1 ! (init ! 22 refl (tt, record { fits = fits-states })) $ pass1 ! (init ! 20 refl (tt, (tt, (record { fits = room-out .0 }, tt)))) $ pass0 ! $ move ! (30 ∷ 31 ∷ 32 ∷ 33 ∷ []) $ part-1 l0 l1 l2 l3 l4 l5 l6 l7 l8 l9 l10 l11 l12 l13 l14)))))))))))))))
 
 module _ {M : Type 1} (𝓤 : URA M) (H : Heap 𝓤) (A : Atoms 𝓤) (W : Given 𝓤 H A) (mem : Memory → SProp 𝓤) (run : Routine → Fun 𝓤) where
-  write-rows-walks : (𝓣 : Tables 𝓤 H) → Triple 𝓤 (𝓣 .C #numbering·write·wide) (wide-contract 𝓤 H A mem run) → Triple 𝓤 (𝓣 .C #table·load) (load-contract 𝓤 H A mem run) → Triple 𝓤 (𝓣 .C #table·fields·order-of) (order-of-contract 𝓤 H A mem run) → Triple 𝓤 (𝓣 .C #numbering·write·write-row) (write-row-contract 𝓤 H A mem run) → Triple 𝓤 (𝓣 .C #numbering·write·offset-of) (offset-of-contract 𝓤 H A mem run) → Walks 𝓤 H A this.ended stayed (WpFn 𝓤 H (𝓣 .C) (𝓣 .Λ) this-code.function) (this.clauses 𝓤 H A mem run)
-  write-rows-walks 𝓣 known-wide known-load known-order-of known-write-row known-offset-of = walked 𝓤 H A this.ended stayed (this.clauses 𝓤 H A mem run) (WpFn 𝓤 H (𝓣 .C) (𝓣 .Λ) this-code.function)
-      (λ κs. (slice-vals, (uint-vals w64, (uint-vals w16, (slice-vals, tt))))) (λ κs. (shr-slice-tells (named 0) (κs .0) Record-row.the-row, (uint-tells w64, (uint-tells w16, (mut-slice-tells (named 1) (κs .1 .0) u8, tt))))) (λ κs qs bounds a g are. needs 𝓤 (WorkLists (a .1 .0) (linksOf ((a .0 .now))) (marksOf ((a .0 .now))) × Shown (a .1 .0) (linksOf ((a .0 .now))) (marksOf ((a .0 .now))) (presentOf ((a .0 .now))) × Numbered (a .1 .0) (statesIn (linksOf ((a .0 .now))) (marksOf ((a .0 .now))) (a .1 .0)) (a .1 .1 .0) (orderOf ((a .0 .now))) (numbersOf ((a .0 .now))) × (length (rowsBytes (rowsIn (linksOf ((a .0 .now))) (marksOf ((a .0 .now))) (a .1 .0))) ≤ length ((a .1 .1 .1 .0 .now)))) _ (λ needed. walk 𝓤 H A W mem run (κs .0) (qs .0) (a .0 .ptr .0) (a .0 .ptr .1) (a .0 .name) (a .0 .now) (a .1 .0) (a .1 .1 .0) (κs .1 .0) (qs .1 .0) (a .1 .1 .1 .0 .ptr .0) (a .1 .1 .1 .0 .ptr .1) (a .1 .1 .1 .0 .name) (a .1 .1 .1 .0 .now) (are .0 .0 .1) (are .1 .0 .1) (are .1 .1 .0 .1) (are .1 .1 .1 .0 .0 .1) needed 𝓣 known-wide known-load known-order-of known-write-row known-offset-of))
+  write-rows-walks : (𝓣 : Tables 𝓤 H) → Triple 𝓤 (𝓣 .C #numbering·write·wide) (wide-contract 𝓤 H A mem run) → Triple 𝓤 (𝓣 .C #numbering·write·state-at) (state-at-contract 𝓤 H A mem run) → Triple 𝓤 (𝓣 .C #numbering·write·write-row) (write-row-contract 𝓤 H A mem run) → Triple 𝓤 (𝓣 .C #numbering·write·offset-of) (offset-of-contract 𝓤 H A mem run) → Walks 𝓤 H A this.ended stayed (WpFn 𝓤 H (𝓣 .C) (𝓣 .Λ) this-code.function) (this.clauses 𝓤 H A mem run)
+  write-rows-walks 𝓣 known-wide known-state-at known-write-row known-offset-of = walked 𝓤 H A this.ended stayed (this.clauses 𝓤 H A mem run) (WpFn 𝓤 H (𝓣 .C) (𝓣 .Λ) this-code.function)
+      (λ κs. (slice-vals, (uint-vals w64, (uint-vals w16, (slice-vals, tt))))) (λ κs. (shr-slice-tells (named 0) (κs .0) Record-row.the-row, (uint-tells w64, (uint-tells w16, (mut-slice-tells (named 1) (κs .1 .0) u8, tt))))) (λ κs qs bounds a g are. needs 𝓤 (ToWrite (rowsBytes (rowsAt (a .1 .0) ((a .0 .now)))) (a .1 .0) (a .1 .1 .0) ((a .0 .now)) ((a .1 .1 .1 .0 .now))) _ (λ needed. walk 𝓤 H A W mem run (κs .0) (qs .0) (a .0 .ptr .0) (a .0 .ptr .1) (a .0 .name) (a .0 .now) (a .1 .0) (a .1 .1 .0) (κs .1 .0) (qs .1 .0) (a .1 .1 .1 .0 .ptr .0) (a .1 .1 .1 .0 .ptr .1) (a .1 .1 .1 .0 .name) (a .1 .1 .1 .0 .now) (are .0 .0 .1) (are .1 .0 .1) (are .1 .1 .0 .1) (are .1 .1 .1 .0 .0 .1) needed 𝓣 known-wide known-state-at known-write-row known-offset-of))
 
-  write-rows-meets : (𝓣 : Tables 𝓤 H) → Triple 𝓤 (𝓣 .C #numbering·write·wide) (wide-contract 𝓤 H A mem run) → Triple 𝓤 (𝓣 .C #table·load) (load-contract 𝓤 H A mem run) → Triple 𝓤 (𝓣 .C #table·fields·order-of) (order-of-contract 𝓤 H A mem run) → Triple 𝓤 (𝓣 .C #numbering·write·write-row) (write-row-contract 𝓤 H A mem run) → Triple 𝓤 (𝓣 .C #numbering·write·offset-of) (offset-of-contract 𝓤 H A mem run) → Meets 𝓤 H A this.signature (WpFn 𝓤 H (𝓣 .C) (𝓣 .Λ) this-code.function) (this.spec 𝓤 H A mem run)
-  write-rows-meets 𝓣 known-wide known-load known-order-of known-write-row known-offset-of = walk-meets 𝓤 H A this.ended stayed W (goes-none-slice 𝓤 H A W 2 (0 ∷ []) tt (plain (λ _. Record-row.the-row)) yes, (goes-none 𝓤 H A W 2 (λ _. usize) yes (λ κs x f. refl), (goes-none 𝓤 H A W 2 (λ _. u16) yes (λ κs x f. refl), (goes-slice 𝓤 H A W 2 1 tt (plain (λ _. u8)), tt)))) (this.clauses 𝓤 H A mem run)
-      (WpFn 𝓤 H (𝓣 .C) (𝓣 .Λ) this-code.function) (WpFn-mono 𝓤 H (W .laws) 𝓣 this-code.function) (write-rows-walks 𝓣 known-wide known-load known-order-of known-write-row known-offset-of)
+  write-rows-meets : (𝓣 : Tables 𝓤 H) → Triple 𝓤 (𝓣 .C #numbering·write·wide) (wide-contract 𝓤 H A mem run) → Triple 𝓤 (𝓣 .C #numbering·write·state-at) (state-at-contract 𝓤 H A mem run) → Triple 𝓤 (𝓣 .C #numbering·write·write-row) (write-row-contract 𝓤 H A mem run) → Triple 𝓤 (𝓣 .C #numbering·write·offset-of) (offset-of-contract 𝓤 H A mem run) → Meets 𝓤 H A this.signature (WpFn 𝓤 H (𝓣 .C) (𝓣 .Λ) this-code.function) (this.spec 𝓤 H A mem run)
+  write-rows-meets 𝓣 known-wide known-state-at known-write-row known-offset-of = walk-meets 𝓤 H A this.ended stayed W (goes-none-slice 𝓤 H A W 2 (0 ∷ []) tt (plain (λ _. Record-row.the-row)) yes, (goes-none 𝓤 H A W 2 (λ _. usize) yes (λ κs x f. refl), (goes-none 𝓤 H A W 2 (λ _. u16) yes (λ κs x f. refl), (goes-slice 𝓤 H A W 2 1 tt (plain (λ _. u8)), tt)))) (this.clauses 𝓤 H A mem run)
+      (WpFn 𝓤 H (𝓣 .C) (𝓣 .Λ) this-code.function) (WpFn-mono 𝓤 H (W .laws) 𝓣 this-code.function) (write-rows-walks 𝓣 known-wide known-state-at known-write-row known-offset-of)
 
 pub write-rows-spec : {M : Type 1} → this-stated.statement M
 unfolding this-code.routine tablesOf
@@ -179,7 +168,6 @@ write-rows-spec 𝓤 H 𝓜 𝓖 𝓡 =
     (tables 𝓤 H 𝓜 𝓡 this-code.env .C) (tables 𝓤 H 𝓜 𝓡 this-code.env .Λ) #numbering·write·write-rows this-code.function (this-code.unfolded 𝓤 H 𝓜 𝓡)
     (write-rows-meets 𝓤 H (𝓖 .A) (givenOf 𝓤 H 𝓜 𝓖) (𝓜 .mem) (𝓡 .run) (tablesOf 𝓤 H 𝓜 (tables 𝓤 H 𝓜 𝓡 this-code.env))
     (cited 𝓤 H (wide-contract 𝓤 H (𝓖 .A) (𝓜 .mem) (𝓡 .run)) 𝓜 𝓡 this-code.env #numbering·write·wide wide-def.routine this-code.calls-numbering·write·wide (wide-thm.met 𝓤 H 𝓜 𝓖 𝓡))
-    (cited 𝓤 H (load-contract 𝓤 H (𝓖 .A) (𝓜 .mem) (𝓡 .run)) 𝓜 𝓡 this-code.env #table·load load-def.routine this-code.calls-table·load (load-thm.met 𝓤 H 𝓜 𝓖 𝓡))
-    (cited 𝓤 H (order-of-contract 𝓤 H (𝓖 .A) (𝓜 .mem) (𝓡 .run)) 𝓜 𝓡 this-code.env #table·fields·order-of order-of-def.routine this-code.calls-table·fields·order-of (order-of-thm.met 𝓤 H 𝓜 𝓖 𝓡))
+    (cited 𝓤 H (state-at-contract 𝓤 H (𝓖 .A) (𝓜 .mem) (𝓡 .run)) 𝓜 𝓡 this-code.env #numbering·write·state-at state-at-def.routine this-code.calls-numbering·write·state-at (state-at-thm.met 𝓤 H 𝓜 𝓖 𝓡))
     (cited 𝓤 H (write-row-contract 𝓤 H (𝓖 .A) (𝓜 .mem) (𝓡 .run)) 𝓜 𝓡 this-code.env #numbering·write·write-row write-row-def.routine this-code.calls-numbering·write·write-row (write-row-thm.met 𝓤 H 𝓜 𝓖 𝓡))
     (cited 𝓤 H (offset-of-contract 𝓤 H (𝓖 .A) (𝓜 .mem) (𝓡 .run)) 𝓜 𝓡 this-code.env #numbering·write·offset-of offset-of-def.routine this-code.calls-numbering·write·offset-of (offset-of-thm.met 𝓤 H 𝓜 𝓖 𝓡)))
