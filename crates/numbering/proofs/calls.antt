@@ -10,6 +10,8 @@ pub mod PlanLength
 pub mod WriteOffsetOf
 pub mod WritePlaceAt
 pub mod WritePlan
+pub mod WriteRowLengthAt
+pub mod WriteStateAt
 pub mod WriteTrailerAt
 pub mod WriteWholeLength
 pub mod WriteWide

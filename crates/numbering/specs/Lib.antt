@@ -1,3 +1,4 @@
 pub mod Kept
 pub mod Numbered
-pub mod Work
+pub mod Table
+pub mod Writing

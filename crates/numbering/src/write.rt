@@ -1,15 +1,14 @@
 // The parts of a plan by the numbered states: the rows, the index, and where they end.
 use crate::fields;
 ghost use mathlib.Core.Path.{_≡_};
-ghost use mathlib.Core.List.{[], _∷_, List·Memᴰ};
+ghost use mathlib.Core.List.{[], _∷_};
 ghost use Prim.Native.Nat.{_+_, _-_, _*_, _≤_, _<_};
 ghost use lib.ListN.{length};
 ghost use Rattle.model.specs.Plan.{moveBytes, rowBytes, rowsBytes, indexBytes};
 ghost use Rattle.keys.specs.Links.{codeAt};
 ghost use Rattle.plan.specs.Front.{front};
-ghost use Rattle.table.specs.Lists.{linksOf, presentOf, marksOf, orderOf, numbersOf};
-ghost use Rattle.numbering.specs.Kept.{statesIn, rowIn, rowsIn, WorkLists, Shown};
-ghost use Rattle.numbering.specs.Numbered.{InOrder, Numbers, Numbered};
+ghost use Rattle.numbering.specs.Table.{stateAt, rowAt, rowsAt, PlanState};
+ghost use Rattle.numbering.specs.Writing.{Wrote, ToWrite, RowToWrite};
 
 // A number of states as a place in a table.
 pub fn wide(states: u16) -> usize
@@ -48,18 +47,38 @@ pub fn whole_length(rows: u32, states: u16) -> u32
     rows + 4 * (states as u32) + 8
 }
 
+// The situation that is the plan's state p.
+pub fn state_at(work: &[table::Record], count: usize, states: u16, p: usize) -> usize
+    requires state { ⌜ PlanState count states p (now work) ⌝ }
+    ensures situation { λ r. ⌜ r ≡ stateAt count p (now (work .entry)) ⌝ }
+{
+    let s = table::load(work, p);
+    table::fields::order_of(s)
+}
+
+// How many bytes the row of the plan's state p has.
+pub fn row_length_at(work: &[table::Record], count: usize, states: u16, p: usize) -> u32
+    requires state { ⌜ PlanState count states p (now work) ⌝ }
+    ensures measured { λ r. ⌜ r ≡ length (rowBytes (rowAt count (stateAt count p (now (work .entry))) (now (work .entry)))) ⌝ }
+{
+    let i = state_at(work, count, states, p);
+    let y = table::load(work, i);
+    fields::row_length(y)
+}
+
 // The move of a slot to the state with a number, at the front of what is lent.
 pub fn write_move(out: &mut [u8], slot: usize, number: u16)
     requires { ⌜ (slot < 42) × (0 < number) × (3 ≤ length (now out)) ⌝ }
-    ensures { λ _. ⌜ now (out .exit) ≡ front (moveBytes (record { code = codeAt slot; to = number - 1 } ∷ [])) (now (out .entry)) ⌝ }
+    ensures { λ _. ⌜ now (out .exit)
+        ≡ front (moveBytes (record { code = codeAt slot; to = number - 1 } ∷ [])) (now (out .entry)) ⌝ }
 {
     plan::write::put_move(out, keys::code_at(slot as u8), number - 1);
 }
 
 // The row of a state's situation i, at the front of what is lent: its length.
 pub fn write_row(work: &[table::Record], count: usize, i: usize, out: &mut [u8]) -> usize
-    requires { ⌜ WorkLists count (linksOf (now work)) (marksOf (now work)) × Shown count (linksOf (now work)) (marksOf (now work)) (presentOf (now work)) × Numbers count (statesIn (linksOf (now work)) (marksOf (now work)) count) (numbersOf (now work)) × List·Memᴰ i (statesIn (linksOf (now work)) (marksOf (now work)) count) × (length (rowBytes (rowIn (linksOf (now work)) (marksOf (now work)) count i)) ≤ length (now out)) ⌝ }
-    ensures { λ r. ⌜ (r ≡ length (rowBytes (rowIn (linksOf (now (work .entry))) (marksOf (now (work .entry))) count i))) × (now (out .exit) ≡ front (rowBytes (rowIn (linksOf (now (work .entry))) (marksOf (now (work .entry))) count i)) (now (out .entry))) ⌝ }
+    requires writing { ⌜ RowToWrite count i (now work) (now out) ⌝ }
+    ensures written { λ r. ⌜ Wrote (rowBytes (rowAt count i (now (work .entry)))) r (now (out .entry)) (now (out .exit)) ⌝ }
 {
     let y = table::load(work, i);
     let mut rest = table::fields::slots_of(y);
@@ -78,15 +97,15 @@ pub fn write_row(work: &[table::Record], count: usize, i: usize, out: &mut [u8])
 
 // The rows of the states, each into the rest of what is lent, directly behind the row before: their length.
 pub fn write_rows(work: &[table::Record], count: usize, states: u16, out: &mut [u8]) -> u32
-    requires { ⌜ WorkLists count (linksOf (now work)) (marksOf (now work)) × Shown count (linksOf (now work)) (marksOf (now work)) (presentOf (now work)) × Numbered count (statesIn (linksOf (now work)) (marksOf (now work)) count) states (orderOf (now work)) (numbersOf (now work)) × (length (rowsBytes (rowsIn (linksOf (now work)) (marksOf (now work)) count)) ≤ length (now out)) ⌝ }
-    ensures { λ r. ⌜ (r ≡ length (rowsBytes (rowsIn (linksOf (now (work .entry))) (marksOf (now (work .entry))) count))) × (now (out .exit) ≡ front (rowsBytes (rowsIn (linksOf (now (work .entry))) (marksOf (now (work .entry))) count)) (now (out .entry))) ⌝ }
+    requires writing { ⌜ ToWrite (rowsBytes (rowsAt count (now work))) count states (now work) (now out) ⌝ }
+    ensures written { λ r. ⌜ Wrote (rowsBytes (rowsAt count (now (work .entry)))) r (now (out .entry)) (now (out .exit)) ⌝ }
 {
     let last = wide(states);
     let mut at: usize = 0;
     let mut p: usize = 0;
     while p < last {
-        let s = table::load(work, p);
-        at = at + write_row(work, count, table::fields::order_of(s), &mut out[at..]);
+        let i = state_at(work, count, states, p);
+        at = at + write_row(work, count, i, &mut out[at..]);
         p = p + 1;
     }
     offset_of(at)
@@ -94,8 +113,8 @@ pub fn write_rows(work: &[table::Record], count: usize, states: u16, out: &mut [
 
 // The index: the offset of each row, the first at 0.
 pub fn write_index(work: &[table::Record], count: usize, states: u16, out: &mut [u8])
-    requires { ⌜ WorkLists count (linksOf (now work)) (marksOf (now work)) × Shown count (linksOf (now work)) (marksOf (now work)) (presentOf (now work)) × InOrder (statesIn (linksOf (now work)) (marksOf (now work)) count) states (orderOf (now work)) × (4 * states ≤ length (now out)) ⌝ }
-    ensures { λ _. ⌜ now (out .exit) ≡ front (indexBytes 0 (rowsIn (linksOf (now (work .entry))) (marksOf (now (work .entry))) count)) (now (out .entry)) ⌝ }
+    requires writing { ⌜ ToWrite (indexBytes 0 (rowsAt count (now work))) count states (now work) (now out) ⌝ }
+    ensures written { λ _. ⌜ now (out .exit) ≡ front (indexBytes 0 (rowsAt count (now (work .entry)))) (now (out .entry)) ⌝ }
 {
     let last = wide(states);
     let mut row: u32 = 0;
@@ -103,9 +122,7 @@ pub fn write_index(work: &[table::Record], count: usize, states: u16, out: &mut 
     let mut p: usize = 0;
     while p < last {
         plan::write::put_dword(&mut out[at..], row);
-        let s = table::load(work, p);
-        let y = table::load(work, table::fields::order_of(s));
-        row = row + fields::row_length(y);
+        row = row + row_length_at(work, count, states, p);
         at = at + 4;
         p = p + 1;
     }

@@ -4,9 +4,7 @@
 use Rattle.walks.proofs.Logic.{_≡_, refl, sym, ap, subst, ℕ, _<_, _^_, List, [], _∷_, length, URA, Place, Operand, Body, seq, call, named, w16, w64, Val, vint, SProp, ent, id⊢, Lft, Share, ftrue, flft, Memory, Routine, Heap, Env, Calls, Loops, Atoms, Fun, fact, Given, Goal, Soaks, Item, Go, Sq, Post, runs, lands, settles, ‵, raw, _⊛_, some, later, ⋆, _$_, _∵_, !, qed, cut, move, drop, use1, split, join, pick, fsplit, fjoin, feqL, await, done, Opds, FmC, Is, shows, RefT, MutSlice, finally, uint-makes, uint-tells, u16, usize, only, owned, heard, peeks, nothing, tripleOf, Contract, Triple, calls-at, calls-at-last, ensured, lasts, says}
 use Rattle.numbering.proofs.number_states as callee
 use Rattle.numbering.proofs.number_states.Symbol.{name as #numbering·number-states}
-use Rattle.numbering.specs.Kept.{Shown, WorkLists, statesIn}
-use Rattle.table.specs.Lists.{linksOf, marksOf, presentOf}
-use Rattle.numbering.specs.Work.{NumberedInto, Unnumbered}
+use Rattle.numbering.specs.Table.{NumberedInto, UnnumberedTable, statesAt}
 use Rattle.table.proofs.Record as Record-row
 use Rattle.table.specs.declared.Record.{Record}
 
@@ -17,26 +15,26 @@ module _ {M : Type 1} (𝓤 : URA M) (H : Heap 𝓤) (A : Atoms 𝓤) (W : Given
   abbrev pub bound : number-states-contract 𝓤 H A mem run .Ghost
   bound = (((κ-work, tt), (q-work, tt), tt, (work, (count, tt)), (s-work ∷ [], (vint w64 count ∷ [], tt))), tt)
 
-  goes : (count < 2 ^ 64) → (WorkLists count (linksOf ((work .now))) (marksOf ((work .now))) × Shown count (linksOf ((work .now))) (marksOf ((work .now))) (presentOf ((work .now))) × Unnumbered count ((work .now))) → ent 𝓤 (⋆ 𝓤 H A (‵ (flft κ-work q-work) ∷ ‵ (MutSlice (named 0) κ-work Record-row.the-row .own work (s-work ∷ [])) ∷ [])) (number-states-contract 𝓤 H A mem run .pre bound)
+  goes : (count < 2 ^ 64) → (UnnumberedTable count ((work .now))) → ent 𝓤 (⋆ 𝓤 H A (‵ (flft κ-work q-work) ∷ ‵ (MutSlice (named 0) κ-work Record-row.the-row .own work (s-work ∷ [])) ∷ [])) (number-states-contract 𝓤 H A mem run .pre bound)
   goes fits-count needed =
       qed W (‵ (flft κ-work q-work) ∷ ‵ (MutSlice (named 0) κ-work Record-row.the-row .own work (s-work ∷ [])) ∷ []) ∵
       says ! needed $ nothing ! $ owned ! usize (Is usize) (uint-makes 𝓤 H A W w64) count _ (refl, fits-count) $ fjoin ! $ move ! (2 ∷ 0 ∷ []) $ fjoin ! $ nothing ! $ move ! (2 ∷ 0 ∷ []) $ join ! $ done !
 
   module _ {Γ : List (Item 𝓤)} where
-    after : (goal· : Val → Goal 𝓤 H) → ((w· : Val) → Soaks (goal· w·)) → ((r : ℕ) (work′ : List Record) → (r < 2 ^ 16) → (length work′ ≡ length (work .now)) → (NumberedInto count (statesIn (linksOf ((work .now))) (marksOf ((work .now))) count) r ((work .now)) (work′)) → Sq W (‵ (flft κ-work q-work) ∷ ‵ (finally Record-row.the-row (work .name) work′) ∷ Γ) (goal· (vint w16 r))) → (w· : Val) → Sq W (raw (number-states-contract 𝓤 H A mem run .post bound w·) ∷ Γ) (goal· w·)
+    after : (goal· : Val → Goal 𝓤 H) → ((w· : Val) → Soaks (goal· w·)) → ((r : ℕ) (work′ : List Record) → (r < 2 ^ 16) → (length work′ ≡ length (work .now)) → (NumberedInto count (statesAt count ((work .now))) r ((work .now)) (work′)) → Sq W (‵ (flft κ-work q-work) ∷ ‵ (finally Record-row.the-row (work .name) work′) ∷ Γ) (goal· (vint w16 r))) → (w· : Val) → Sq W (raw (number-states-contract 𝓤 H A mem run .post bound w·) ∷ Γ) (goal· w·)
     after goal· soaks· k· w· =
         use1 W (later (some (λ (r : ℕ). ((‵ (flft κ-work q-work) ⊛ ‵ ftrue) ⊛ ‵ (u16 .own r (w· ∷ []))) ⊛ raw (ensured 𝓤 H A callee.ended (callee.clauses 𝓤 H A mem run) (κ-work, tt) (work, (count, tt)) tt r)))) (id⊢ 𝓤 _) $ await ! (soaks· w·) $ pick ! (λ r. split ! $ move ! (1 ∷ []) $
-        use1 W (some (λ (ws· : List Record × (Unit {0} × (Unit {0}))). ‵ (lasts callee.ended (κ-work, tt) (work, (count, tt)) ws·) ⊛ raw (fact 𝓤 (NumberedInto count (statesIn (linksOf ((work .now))) (marksOf ((work .now))) count) r ((work .now)) ((ws· .0)))))) (id⊢ 𝓤 _) $ pick ! (λ ws·. split ! $ move ! (1 ∷ []) $ heard ! (NumberedInto count (statesIn (linksOf ((work .now))) (marksOf ((work .now))) count) r ((work .now)) ((ws· .0))) (λ e·.
+        use1 W (some (λ (ws· : List Record × (Unit {0} × (Unit {0}))). ‵ (lasts callee.ended (κ-work, tt) (work, (count, tt)) ws·) ⊛ raw (fact 𝓤 (NumberedInto count (statesAt count ((work .now))) r ((work .now)) ((ws· .0)))))) (id⊢ 𝓤 _) $ pick ! (λ ws·. split ! $ move ! (1 ∷ []) $ heard ! (NumberedInto count (statesAt count ((work .now))) r ((work .now)) ((ws· .0))) (λ e·.
         fsplit ! $ fsplit ! $ move ! (1 ∷ []) $ feqL ! (λ l-work. move ! (1 ∷ []) $ fsplit ! $ drop ! $ drop ! $ move ! (1 ∷ []) $ split ! $ move ! (1 ∷ []) $ peeks ! u16 (Is u16) (shows 𝓤 H A u16) r (w· ∷ []) (λ is·. drop ! $ split ! $ move ! (1 ∷ []) $ drop ! $
         subst (λ (u· : Val). Sq W (‵ (flft κ-work q-work) ∷ ‵ (finally Record-row.the-row (work .name) (ws· .0)) ∷ Γ) (goal· u·)) (sym (ap only (uint-tells w16 r (w· ∷ []) is·))) (k· r (ws· .0) (subst (λ (us : List Val). Is u16 r us) (uint-tells w16 r (w· ∷ []) is·) is· .1) l-work e·))))))
 
     module _ {C : Calls 𝓤 H} {Λ : Loops 𝓤 H} {E· : Env 𝓤 H} {p· : Post 𝓤 H} {d· : Place} {xs· : List Operand} where
-      pub calls-number-states : {rest· : Body} → FmC 𝓤 H (W .laws) C → Triple 𝓤 (C #numbering·number-states) (number-states-contract 𝓤 H A mem run) → (count < 2 ^ 64) → (WorkLists count (linksOf ((work .now))) (marksOf ((work .now))) × Shown count (linksOf ((work .now))) (marksOf ((work .now))) (presentOf ((work .now))) × Unnumbered count ((work .now))) → Opds (Go {0}) W (raw (number-states-contract 𝓤 H A mem run .pre bound) ∷ Γ) E· xs· (s-work ∷ vint w64 count ∷ [])
-          → ((r : ℕ) (work′ : List Record) → (r < 2 ^ 16) → (length work′ ≡ length (work .now)) → (NumberedInto count (statesIn (linksOf ((work .now))) (marksOf ((work .now))) count) r ((work .now)) (work′)) → Sq W (‵ (flft κ-work q-work) ∷ ‵ (finally Record-row.the-row (work .name) work′) ∷ Γ) (lands C Λ E· d· (vint w16 r) rest· p·)) → Sq W (‵ (flft κ-work q-work) ∷ ‵ (MutSlice (named 0) κ-work Record-row.the-row .own work (s-work ∷ [])) ∷ Γ) (runs C Λ E· (seq (call #numbering·number-states xs· d·) rest·) p·)
+      pub calls-number-states : {rest· : Body} → FmC 𝓤 H (W .laws) C → Triple 𝓤 (C #numbering·number-states) (number-states-contract 𝓤 H A mem run) → (count < 2 ^ 64) → (UnnumberedTable count ((work .now))) → Opds (Go {0}) W (raw (number-states-contract 𝓤 H A mem run .pre bound) ∷ Γ) E· xs· (s-work ∷ vint w64 count ∷ [])
+          → ((r : ℕ) (work′ : List Record) → (r < 2 ^ 16) → (length work′ ≡ length (work .now)) → (NumberedInto count (statesAt count ((work .now))) r ((work .now)) (work′)) → Sq W (‵ (flft κ-work q-work) ∷ ‵ (finally Record-row.the-row (work .name) work′) ∷ Γ) (lands C Λ E· d· (vint w16 r) rest· p·)) → Sq W (‵ (flft κ-work q-work) ∷ ‵ (MutSlice (named 0) κ-work Record-row.the-row .own work (s-work ∷ [])) ∷ Γ) (runs C Λ E· (seq (call #numbering·number-states xs· d·) rest·) p·)
       calls-number-states {rest·} fm· known· fits-count needed operands· k· = cut {W = W} (‵ (flft κ-work q-work) ∷ ‵ (MutSlice (named 0) κ-work Record-row.the-row .own work (s-work ∷ [])) ∷ []) (raw (number-states-contract 𝓤 H A mem run .pre bound) ∷ []) Γ (goes fits-count needed) $
           calls-at ! fm· (number-states-contract 𝓤 H A mem run) known· bound operands· (λ w·. after (λ u·. lands C Λ E· d· u· rest· p·) (λ u·. tt) k· w·)
 
-      pub calls-number-states-last : FmC 𝓤 H (W .laws) C → Triple 𝓤 (C #numbering·number-states) (number-states-contract 𝓤 H A mem run) → (count < 2 ^ 64) → (WorkLists count (linksOf ((work .now))) (marksOf ((work .now))) × Shown count (linksOf ((work .now))) (marksOf ((work .now))) (presentOf ((work .now))) × Unnumbered count ((work .now))) → Opds (Go {0}) W (raw (number-states-contract 𝓤 H A mem run .pre bound) ∷ Γ) E· xs· (s-work ∷ vint w64 count ∷ [])
-          → ((r : ℕ) (work′ : List Record) → (r < 2 ^ 16) → (length work′ ≡ length (work .now)) → (NumberedInto count (statesIn (linksOf ((work .now))) (marksOf ((work .now))) count) r ((work .now)) (work′)) → Sq W (‵ (flft κ-work q-work) ∷ ‵ (finally Record-row.the-row (work .name) work′) ∷ Γ) (settles E· d· (vint w16 r) p·)) → Sq W (‵ (flft κ-work q-work) ∷ ‵ (MutSlice (named 0) κ-work Record-row.the-row .own work (s-work ∷ [])) ∷ Γ) (runs C Λ E· (call #numbering·number-states xs· d·) p·)
+      pub calls-number-states-last : FmC 𝓤 H (W .laws) C → Triple 𝓤 (C #numbering·number-states) (number-states-contract 𝓤 H A mem run) → (count < 2 ^ 64) → (UnnumberedTable count ((work .now))) → Opds (Go {0}) W (raw (number-states-contract 𝓤 H A mem run .pre bound) ∷ Γ) E· xs· (s-work ∷ vint w64 count ∷ [])
+          → ((r : ℕ) (work′ : List Record) → (r < 2 ^ 16) → (length work′ ≡ length (work .now)) → (NumberedInto count (statesAt count ((work .now))) r ((work .now)) (work′)) → Sq W (‵ (flft κ-work q-work) ∷ ‵ (finally Record-row.the-row (work .name) work′) ∷ Γ) (settles E· d· (vint w16 r) p·)) → Sq W (‵ (flft κ-work q-work) ∷ ‵ (MutSlice (named 0) κ-work Record-row.the-row .own work (s-work ∷ [])) ∷ Γ) (runs C Λ E· (call #numbering·number-states xs· d·) p·)
       calls-number-states-last fm· known· fits-count needed operands· k· = cut {W = W} (‵ (flft κ-work q-work) ∷ ‵ (MutSlice (named 0) κ-work Record-row.the-row .own work (s-work ∷ [])) ∷ []) (raw (number-states-contract 𝓤 H A mem run .pre bound) ∷ []) Γ (goes fits-count needed) $
           calls-at-last ! fm· (number-states-contract 𝓤 H A mem run) known· bound operands· (λ w·. after (λ u·. settles E· d· u· p·) (λ u·. tt) k· w·)

@@ -1,0 +1,10 @@
+pub mod Counts
+pub mod Kept
+pub mod Adding
+pub mod Looking
+pub mod Numbering
+pub mod Moves
+pub mod Bytes
+pub mod Writing
+pub mod Row
+pub mod Parts
