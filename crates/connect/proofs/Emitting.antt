@@ -1,31 +1,27 @@
 -- The plan of what stays: its length decides between 13 and acceptance, and is known before a byte is written.
 -- Assumes nothing.
-use mathlib.Core.Path.{_≡_, sym, ap, subst, subst⁻¹, _∙_}
+use mathlib.Core.Path.{_≡_, sym, ap, subst, _∙_}
 use mathlib.Core.Bool.{Bool, true, false}
 use mathlib.Core.List.{List, []}
 use Prim.Native.Nat.{ℕ, _≤_, _<_}
 use native.Mathlib.Omega.{arith}
-use lib.ListN.{length, length-map}
-use lib.Dec.{eqb, leb}
+use lib.ListN.{length}
+use lib.Dec.{leb}
 use borrow.Author.Tests.{le-leb, lt-leb, leb-true, leb-false}
-use Rattle.model.specs.Situation.{codes}
-use Rattle.model.specs.Plan.{Move, rowOf, planStates, planRows, planBytes}
+use Rattle.model.specs.Plan.{Move, planBytes}
 use Rattle.model.specs.Sheet.{contractIn}
 use Rattle.model.specs.Connect.{counted, emitted}
 use Rattle.plan.specs.Front.{front}
 use Rattle.plan.proofs.Front.{front-none}
-use Rattle.keys.specs.Links.{nextIn, unmarked}
 use Rattle.table.specs.declared.Record.{Record}
-use Rattle.table.specs.Lists.{linksOf, marksOf, presentOf, orderOf, numbersOf}
-use Rattle.numbering.specs.Kept.{statesIn, rowsIn, WorkLists, Shown}
-use Rattle.numbering.specs.Numbered.{Numbered}
-use Rattle.numbering.specs.Work.{NumberedInto}
+use Rattle.numbering.specs.Table.{statesAt, rowsAt, UnnumberedTable, NumberedTable, NumberedInto}
+use Rattle.numbering.specs.Writing.{ToWrite}
+use Rattle.numbering.proofs.records.Held.{rows-stay}
+use Rattle.numbering.proofs.records.Numbering.{numbered-table}
+use Rattle.numbering.proofs.records.States.{states-are}
 use Rattle.connect.specs.Answers.{answerOf, counting, Writes}
+use Rattle.connect.specs.Related.{emittedFrom}
 use Rattle.connect.specs.declared.Answer.{Answer}
-
-rows-count : (links marks : List ℕ) (count : ℕ) → length (rowsIn links marks count) ≡ length (statesIn links marks count)
-unfolding rowsIn statesIn planRows
-rows-count links marks count = length-map (planStates eqb codes (nextIn links) (unmarked marks count) 0) (rowOf eqb codes (nextIn links) (unmarked marks count) 0)
 
 -- an answer after situations were counted, with nothing written
 pub writes-none : (number situations states rounds : ℕ) (r : Answer) (plan : List ℕ)
@@ -57,53 +53,41 @@ module _ (k n situations states rounds size : ℕ) (rows : List (List Move)) (r 
 
 -- ---- the records after the numbering
 
-module _ (k : ℕ) (old : List ℕ) (count rounds : ℕ) (ys : List Record) {states : ℕ} {ys′ : List Record}
-    (lists : WorkLists count (linksOf ys) (marksOf ys)) (shown : Shown count (linksOf ys) (marksOf ys) (presentOf ys))
-    (numbered : NumberedInto count (statesIn (linksOf ys) (marksOf ys) count) states ys ys′) where
-  pub numbered-lists : WorkLists count (linksOf ys′) (marksOf ys′)
-  numbered-lists =
-      subst⁻¹ (λ (links : List ℕ). WorkLists count links (marksOf ys′)) (numbered .same .links)
-      (subst⁻¹ (λ (marks : List ℕ). WorkLists count (linksOf ys) marks) (numbered .same .marks) lists)
+module _ (k : ℕ) (old : List ℕ) (count rounds : ℕ) (ys : List Record) {states : ℕ} {ys′ : List Record} (unnumbered : UnnumberedTable count ys)
+    (into : NumberedInto count (statesAt count ys) states ys ys′) where
+  pub numbered-states : NumberedTable count states ys′
+  numbered-states = numbered-table ys (unnumbered .settled) into
 
-  pub numbered-shown : Shown count (linksOf ys′) (marksOf ys′) (presentOf ys′)
-  numbered-shown =
-      subst⁻¹ (λ (links : List ℕ). Shown count links (marksOf ys′) (presentOf ys′)) (numbered .same .links)
-      (subst⁻¹ (λ (marks : List ℕ). Shown count (linksOf ys) marks (presentOf ys′)) (numbered .same .marks)
-      (subst⁻¹ (λ (present : List ℕ). Shown count (linksOf ys) (marksOf ys) present) (numbered .same .present) shown))
+  abbrev rows : List (List Move)
+  rows = rowsAt count ys
 
-  pub numbered-states : Numbered count (statesIn (linksOf ys′) (marksOf ys′) count) states (orderOf ys′) (numbersOf ys′)
-  numbered-states =
-      subst⁻¹ (λ (known : List ℕ). Numbered count known states (orderOf ys′) (numbersOf ys′)) (λ i. statesIn (numbered .same .links i) (numbered .same .marks i) count) (numbered .holds)
+  rows-same : rowsAt count ys′ ≡ rows
+  rows-same = rows-stay (into .only) count
 
-  rows-same : rowsIn (linksOf ys′) (marksOf ys′) count ≡ rowsIn (linksOf ys) (marksOf ys) count
-  rows-same i = rowsIn (numbered .same .links i) (numbered .same .marks i) count
+  states-count : states ≡ length rows
+  states-count = states-are ys′ numbered-states ∙ ap length rows-same
 
-  states-are : states ≡ length (rowsIn (linksOf ys) (marksOf ys) count)
-  states-are = numbered .holds .in-order .free-is ∙ sym (rows-count (linksOf ys) (marksOf ys) count)
-
-  module _ {size : ℕ} (size-is : (n k : ℕ) → size ≡ length (planBytes n k (rowsIn (linksOf ys′) (marksOf ys′) count))) (plan : List ℕ) {enough : Bool}
+  module _ {size : ℕ} (size-is : (n k : ℕ) → size ≡ length (planBytes n k (rowsAt count ys′))) (plan : List ℕ) {enough : Bool}
       (enough-is : enough ≡ leb size (length plan)) where
-    size-same : (n : ℕ) → size ≡ length (planBytes n k (rowsIn (linksOf ys) (marksOf ys) count))
+    size-same : (n : ℕ) → size ≡ length (planBytes n k rows)
     size-same n = size-is n k ∙ ap (λ (rows : List (List Move)). length (planBytes n k rows)) rows-same
 
     module _ (yes : enough ≡ true) where
       fitting : size ≤ length plan
       fitting = leb-true size (length plan) (sym enough-is ∙ yes)
 
-      pub plan-fits : (n : ℕ) → length (planBytes n k (rowsIn (linksOf ys′) (marksOf ys′) count)) ≤ length plan
-      plan-fits n = omega (arith, size-is n k, fitting)
+      pub plan-to-write : (n : ℕ) → ToWrite (planBytes n k (rowsAt count ys′)) count states ys′ plan
+      plan-to-write n = record { table = numbered-states; room = omega (arith, size-is n k, fitting) }
 
-      pub plan-emitted : {n : ℕ} {plan′ : List ℕ} {r : Answer} → n ≡ contractIn old .n → plan′ ≡ front (planBytes n k (rowsIn (linksOf ys′) (marksOf ys′) count)) plan
-          → answerOf r ≡ counting 0 count states rounds size
-          → Writes (emitted (contractIn old .n) k (length plan) count rounds (rowsIn (linksOf ys) (marksOf ys) count)) r plan plan′
+      pub plan-emitted : {n : ℕ} {plan′ : List ℕ} {r : Answer} → n ≡ contractIn old .n → plan′ ≡ front (planBytes n k (rowsAt count ys′)) plan
+          → answerOf r ≡ counting 0 count states rounds size → Writes (emittedFrom k old count rounds ys (length plan)) r plan plan′
       plan-emitted {n} {plan′} {r} n-is written a =
-          subst (λ (n : ℕ). Writes (emitted n k (length plan) count rounds (rowsIn (linksOf ys) (marksOf ys) count)) r plan plan′) n-is
-          (emit-fits k n count states rounds size (rowsIn (linksOf ys) (marksOf ys) count) r plan (size-same n) states-are plan′ fitting a
+          subst (λ (n : ℕ). Writes (emitted n k (length plan) count rounds rows) r plan plan′) n-is
+          (emit-fits k n count states rounds size rows r plan (size-same n) states-count plan′ fitting a
           (written ∙ ap (λ (rows : List (List Move)). front (planBytes n k rows) plan) rows-same))
 
-    pub plan-refused : {r : Answer} → enough ≡ false
-        → answerOf r ≡ counting 13 count states rounds 0
-        → Writes (emitted (contractIn old .n) k (length plan) count rounds (rowsIn (linksOf ys) (marksOf ys) count)) r plan plan
+    pub plan-refused : {r : Answer} → enough ≡ false → answerOf r ≡ counting 13 count states rounds 0
+        → Writes (emittedFrom k old count rounds ys (length plan)) r plan plan
     plan-refused {r} lacking a =
-        emit-short k (contractIn old .n) count states rounds size (rowsIn (linksOf ys) (marksOf ys) count) r plan (size-same (contractIn old .n)) states-are
+        emit-short k (contractIn old .n) count states rounds size rows r plan (size-same (contractIn old .n)) states-count
         (leb-false size (length plan) (sym enough-is ∙ lacking)) a

@@ -14,7 +14,7 @@ use Rattle.keys.specs.Links.{nextIn}
 use Rattle.table.specs.declared.Record.{Record}
 use Rattle.table.specs.Lists.{keysOf, linksOf}
 use Rattle.rounds.specs.Settled.{settledIn}
-use Rattle.numbering.specs.Kept.{rowsAt}
+use Rattle.numbering.specs.Table.{rowsAt}
 
 -- 12, "the start is removed", or 13 or acceptance: `related` of the model, for the situations that the lists hold
 unfoldable pub relatedIn : (k : ℕ) → Contract → Contract → (keys links : List ℕ) → (count room : ℕ) → Outcome

@@ -7,8 +7,8 @@ ghost use lib.Dec.{leb};
 ghost use Rattle.model.specs.Connect.{limitOf, connectOf};
 ghost use Rattle.sheet.specs.Whole.{IsSheet};
 ghost use Rattle.table.specs.Records.{blank};
-ghost use Rattle.table.specs.States.{SearchedTable, SettledTable};
-ghost use Rattle.numbering.specs.Work.{Unnumbered};
+ghost use Rattle.table.specs.States.{SearchedTable};
+ghost use Rattle.numbering.specs.Table.{UnnumberedTable};
 ghost use Rattle.connect.specs.Answers.{answerOf, refusing, counting, connectedFrom, Writes, Admits};
 ghost use Rattle.connect.specs.Related.{relatedFrom, emittedFrom};
 use pair::Pair;
@@ -106,8 +106,7 @@ fn emit(
     rounds: u16,
 ) -> Answer
     requires old_sheet { ⌜ IsSheet (now old) ⌝ }
-    requires settled { ⌜ SettledTable count (now work) ⌝ }
-    requires unnumbered { ⌜ Unnumbered count (now work) ⌝ }
+    requires unnumbered { ⌜ UnnumberedTable count (now work) ⌝ }
     ensures written { λ r. ⌜ Writes
         (emittedFrom k (now (old .entry)) count rounds (now (work .entry)) (length (now (plan .entry)))) r
         (now (plan .entry)) (now (plan .exit)) ⌝ }
@@ -132,7 +131,7 @@ fn relate(
     count: usize,
 ) -> Answer
     requires searched { ⌜ SearchedTable (now old) (now new) count (now work) ⌝ }
-    requires some { ⌜ 0 < count ⌝ }
+    requires some_situation { ⌜ 0 < count ⌝ }
     ensures written { λ r. ⌜ Writes
         (relatedFrom k (now (old .entry)) (now (new .entry)) count (now (work .entry)) (length (now (plan .entry)))) r
         (now (plan .entry)) (now (plan .exit)) ⌝ }

@@ -21,13 +21,13 @@ use Rattle.connect.proofs.calls.ConnectChecked.{calls-connect-checked, 
 use Rattle.connect.proofs.connect_checked.Symbol as connect-checked-def
 use Rattle.connect.proofs.connect_checked.Symbol.{name as #connect·connect-checked}
 use Rattle.connect.proofs.connect_checked.Met as connect-checked-thm
-use Rattle.model.specs.Connect.{connectOf}
 use Rattle.table.proofs.calls.Clear.{calls-clear, clear-contract}
 use Rattle.table.proofs.clear.Symbol as clear-def
 use Rattle.table.proofs.clear.Symbol.{name as #table·clear}
 use Rattle.table.proofs.clear.Met as clear-thm
 use Rattle.table.specs.Records.{blank, cleared}
 use Rattle.connect.proofs.Outcomes.{connect-done, connect-refused}
+use Rattle.model.specs.Connect.{connectOf}
 use Rattle.table.proofs.Record as Record-row
 use Rattle.table.specs.declared.Record.{Record}
 use Rattle.connect.proofs.Answer as Answer-row

@@ -17,19 +17,17 @@ use Rattle.connect.proofs.calls.LimitOf.{calls-limit-of, limit-of-contr
 use Rattle.connect.proofs.limit_of.Symbol as limit-of-def
 use Rattle.connect.proofs.limit_of.Symbol.{name as #connect·limit-of}
 use Rattle.connect.proofs.limit_of.Met as limit-of-thm
-use Rattle.model.specs.Connect.{connected, limitOf}
+use Rattle.model.specs.Connect.{limitOf}
 use Rattle.reached.proofs.calls.Explore.{calls-explore, explore-contract}
 use Rattle.reached.proofs.explore.Symbol as explore-def
 use Rattle.reached.proofs.explore.Symbol.{name as #reached·explore}
 use Rattle.reached.proofs.explore.Met as explore-thm
-use Rattle.sheet.specs.Whole.{IsSheet}
-use Rattle.reached.specs.Reached.{ExploredWork}
-use Rattle.model.specs.Sheet.{contractIn}
+use Rattle.reached.specs.Reached.{Explored}
 use Rattle.connect.proofs.calls.Refusal.{calls-refusal, refusal-contract}
 use Rattle.connect.proofs.refusal.Symbol as refusal-def
 use Rattle.connect.proofs.refusal.Symbol.{name as #connect·refusal}
 use Rattle.connect.proofs.refusal.Met as refusal-thm
-use Rattle.connect.specs.Answers.{Writes}
+use Rattle.connect.specs.Answers.{Writes, connectedFrom}
 use Rattle.connect.proofs.calls.Wide.{calls-wide, wide-contract}
 use Rattle.connect.proofs.wide.Symbol as wide-def
 use Rattle.connect.proofs.wide.Symbol.{name as #connect·wide}
@@ -38,9 +36,9 @@ use Rattle.connect.proofs.calls.Relate.{calls-relate, relate-contract}
 use Rattle.connect.proofs.relate.Symbol as relate-def
 use Rattle.connect.proofs.relate.Symbol.{name as #connect·relate}
 use Rattle.connect.proofs.relate.Met as relate-thm
-use Rattle.table.specs.Lists.{keysOf, linksOf}
-use Rattle.connect.specs.Related.{relatedIn}
-use Rattle.connect.proofs.Connecting.{limit-few, work-table, writes-over, writes-whole}
+use Rattle.connect.specs.Related.{relatedFrom}
+use Rattle.connect.proofs.Connecting.{search-needs, searched-table, some-total, writes-over, writes-whole}
+use Rattle.sheet.specs.Whole.{IsSheet}
 use Rattle.table.proofs.Record as Record-row
 use Rattle.table.specs.declared.Record.{Record}
 use Rattle.connect.proofs.Answer as Answer-row
@@ -100,7 +98,7 @@ module _ {M : Type 1} (𝓤 : URA M) (H : Heap 𝓤) (A : Atoms 𝓤) (W : Given
   Ends = walkOf 𝓤 H A this.ended stayed (this.clauses 𝓤 H A mem run) .post (((κ-old, (κ-new, (κ-work, (κ-plan, tt)))), (q-old, (q-new, (q-work, (q-plan, tt)))), tt, args, machine), tt)
 
   -- what is had at an exit
-  exits : (r : Answer) (work′ : List Record) (plan′ : List ℕ) (is-res : Is Answer-row.the-row r (Answer-laws.lowered r ∷ [])) (long-work : length work′ ≡ length work) (long-plan : length plan′ ≡ length plan) (said : Writes (connected k (contractIn (old)) (contractIn (new)) (limitOf (length (work))) (length (plan))) r (plan) (plan′)) → ent 𝓤 (⋆ 𝓤 H A (‵ (ShrSlice (named 0) κ-old u8 .own (lentAt b-old o-old γ-old old) (s-old ∷ [])) ∷ ‵ (flft κ-old q-old) ∷ ‵ (ShrSlice (named 1) κ-new u8 .own (lentAt b-new o-new γ-new new) (s-new ∷ [])) ∷ ‵ (flft κ-new q-new) ∷ ‵ (MutSlice (named 2) κ-work Record-row.the-row .own (lentAt b-work o-work γ-work work′) (s-work ∷ [])) ∷ ‵ (flft κ-work q-work) ∷ ‵ (MutSlice (named 3) κ-plan u8 .own (lentAt b-plan o-plan γ-plan plan′) (s-plan ∷ [])) ∷ ‵ (flft κ-plan q-plan) ∷ [])) (Ends (Answer-laws.lowered r))
+  exits : (r : Answer) (work′ : List Record) (plan′ : List ℕ) (is-res : Is Answer-row.the-row r (Answer-laws.lowered r ∷ [])) (long-work : length work′ ≡ length work) (long-plan : length plan′ ≡ length plan) (said : Writes (connectedFrom k (old) (new) (length (work)) (length (plan))) r (plan) (plan′)) → ent 𝓤 (⋆ 𝓤 H A (‵ (ShrSlice (named 0) κ-old u8 .own (lentAt b-old o-old γ-old old) (s-old ∷ [])) ∷ ‵ (flft κ-old q-old) ∷ ‵ (ShrSlice (named 1) κ-new u8 .own (lentAt b-new o-new γ-new new) (s-new ∷ [])) ∷ ‵ (flft κ-new q-new) ∷ ‵ (MutSlice (named 2) κ-work Record-row.the-row .own (lentAt b-work o-work γ-work work′) (s-work ∷ [])) ∷ ‵ (flft κ-work q-work) ∷ ‵ (MutSlice (named 3) κ-plan u8 .own (lentAt b-plan o-plan γ-plan plan′) (s-plan ∷ [])) ∷ ‵ (flft κ-plan q-plan) ∷ [])) (Ends (Answer-laws.lowered r))
   exits r work′ plan′ is-res long-work long-plan said =
       qed W (‵ (ShrSlice (named 0) κ-old u8 .own (lentAt b-old o-old γ-old old) (s-old ∷ [])) ∷ ‵ (flft κ-old q-old) ∷ ‵ (ShrSlice (named 1) κ-new u8 .own (lentAt b-new o-new γ-new new) (s-new ∷ [])) ∷ ‵ (flft κ-new q-new) ∷ ‵ (MutSlice (named 2) κ-work Record-row.the-row .own (lentAt b-work o-work γ-work work′) (s-work ∷ [])) ∷ ‵ (flft κ-work q-work) ∷ ‵ (MutSlice (named 3) κ-plan u8 .own (lentAt b-plan o-plan γ-plan plan′) (s-plan ∷ [])) ∷ ‵ (flft κ-plan q-plan) ∷ []) ∵
       suffices ! _ (ends-at 𝓤 H A this.ended stayed (this.clauses 𝓤 H A mem run) W (((κ-old, (κ-new, (κ-work, (κ-plan, tt)))), (q-old, (q-new, (q-work, (q-plan, tt)))), tt, args, machine), tt) (Answer-laws.lowered r) r (tt, (tt, (tt, (work′, (plan′, tt))))) (tt, (tt, (tt, (long-work, (long-plan, tt)))))) $ says ! said $
@@ -111,7 +109,7 @@ module _ {M : Type 1} (𝓤 : URA M) (H : Heap 𝓤) (A : Atoms 𝓤) (W : Given
       abbrev En : Env 𝓤 H
       En = (Answer-laws.mir, l0) ∷ ((tyInt w8), l1) ∷ (τ0, l2) ∷ (τ1, l3) ∷ (τ2, l4) ∷ (τ3, l5) ∷ ((tyInt w64), l6) ∷ ((tyInt w16), l7) ∷ ((tyInt w64), l8) ∷ (τ4, l9) ∷ (τ5, l10) ∷ (tyBool, l11) ∷ (τ4, l12) ∷ (τ5, l13) ∷ (τ6, l14) ∷ (τ7, l15) ∷ []
 
-      part-8 : (limit : ℕ) (fits-limit : limit < 2 ^ 64) (limit-is : limit ≡ limitOf (length work)) (count : ℕ) (found : List Record) (fits-count : count < 2 ^ 16) (same-found : length found ≡ length work) (explored : ExploredWork k (contractIn (old)) (contractIn (new)) limit count (work) (found)) (some-count : count ≡ 0 → ⊥) (total : ℕ) (fits-total : total < 2 ^ 64) (total-is : total ≡ count) (answer : Answer) (related : List Record) (written : List ℕ) (is-answer : Is Answer-row.the-row answer (Answer-laws.lowered answer ∷ [])) (same-related : length related ≡ length found) (same-written : length written ≡ length plan) (is-written : Writes (relatedIn k (contractIn (old)) (contractIn (new)) (keysOf (found)) (linksOf (found)) total (length (plan))) answer (plan) (written)) → Sq W (‵ (ShrSlice (named 0) κ-old u8 .own (lentAt b-old o-old γ-old old) (s-old ∷ [])) ∷ ‵ (flft κ-old q-old) ∷ ‵ (ShrSlice (named 1) κ-new u8 .own (lentAt b-new o-new γ-new new) (s-new ∷ [])) ∷ ‵ (flft κ-new q-new) ∷ ‵ (MutSlice (named 2) κ-work Record-row.the-row .own (lentAt b-work o-work γ-work related) (s-work ∷ [])) ∷ ‵ (flft κ-work q-work) ∷ ‵ (MutSlice (named 3) κ-plan u8 .own (lentAt b-plan o-plan γ-plan written) (s-plan ∷ [])) ∷ ‵ (flft κ-plan q-plan) ∷ empty τ7 l15 (empty τ6 l14 (empty τ5 l13 (empty τ4 l12 (empty tyBool l11 (empty τ5 l10 (empty τ4 l9 (empty (tyInt w64) l8 (empty (tyInt w16) l7 (empty (tyInt w64) l6 (empty τ3 l5 (empty τ2 l4 (empty τ1 l3 (empty τ0 l2 (empty (tyInt w8) l1 (full Answer-laws.mir l0 (Answer-laws.lowered answer) ([]))))))))))))))))) (runs (𝓣 .C) (𝓣 .Λ) En this-mir.t-14 (atRet En Ends))
+      part-8 : (limit : ℕ) (fits-limit : limit < 2 ^ 64) (limit-is : limit ≡ limitOf (length work)) (count : ℕ) (found : List Record) (fits-count : count < 2 ^ 16) (same-found : length found ≡ length work) (explored : Explored (old) (new) k limit count (work) (found)) (some-count : count ≡ 0 → ⊥) (total : ℕ) (fits-total : total < 2 ^ 64) (total-is : total ≡ count) (answer : Answer) (related : List Record) (written : List ℕ) (is-answer : Is Answer-row.the-row answer (Answer-laws.lowered answer ∷ [])) (same-related : length related ≡ length found) (same-written : length written ≡ length plan) (is-written : Writes (relatedFrom k (old) (new) total (found) (length (plan))) answer (plan) (written)) → Sq W (‵ (ShrSlice (named 0) κ-old u8 .own (lentAt b-old o-old γ-old old) (s-old ∷ [])) ∷ ‵ (flft κ-old q-old) ∷ ‵ (ShrSlice (named 1) κ-new u8 .own (lentAt b-new o-new γ-new new) (s-new ∷ [])) ∷ ‵ (flft κ-new q-new) ∷ ‵ (MutSlice (named 2) κ-work Record-row.the-row .own (lentAt b-work o-work γ-work related) (s-work ∷ [])) ∷ ‵ (flft κ-work q-work) ∷ ‵ (MutSlice (named 3) κ-plan u8 .own (lentAt b-plan o-plan γ-plan written) (s-plan ∷ [])) ∷ ‵ (flft κ-plan q-plan) ∷ empty τ7 l15 (empty τ6 l14 (empty τ5 l13 (empty τ4 l12 (empty tyBool l11 (empty τ5 l10 (empty τ4 l9 (empty (tyInt w64) l8 (empty (tyInt w16) l7 (empty (tyInt w64) l6 (empty τ3 l5 (empty τ2 l4 (empty τ1 l3 (empty τ0 l2 (empty (tyInt w8) l1 (full Answer-laws.mir l0 (Answer-laws.lowered answer) ([]))))))))))))))))) (runs (𝓣 .C) (𝓣 .Λ) En this-mir.t-14 (atRet En Ends))
       part-8 limit fits-limit limit-is count found fits-count same-found explored some-count total fits-total total-is answer related written is-answer same-related same-written is-written =
           returns-within ! Ends refl (look ! 38 refl) $ released ! (‵ (ShrSlice (named 0) κ-old u8 .own (lentAt b-old o-old γ-old old) (s-old ∷ [])) ∷ ‵ (flft κ-old q-old) ∷ ‵ (ShrSlice (named 1) κ-new u8 .own (lentAt b-new o-new γ-new new) (s-new ∷ [])) ∷ ‵ (flft κ-new q-new) ∷ ‵ (MutSlice (named 2) κ-work Record-row.the-row .own (lentAt b-work o-work γ-work related) (s-work ∷ [])) ∷ ‵ (flft κ-work q-work) ∷ ‵ (MutSlice (named 3) κ-plan u8 .own (lentAt b-plan o-plan γ-plan written) (s-plan ∷ [])) ∷ ‵ (flft κ-plan q-plan) ∷ []) (held Answer-laws.mir l0 (Answer-laws.lowered answer) ∷ bare (tyInt w8) l1 ∷ bare τ0 l2 ∷ bare τ1 l3 ∷ bare τ2 l4 ∷ bare τ3 l5 ∷ bare (tyInt w64) l6 ∷ bare (tyInt w16) l7 ∷ bare (tyInt w64) l8 ∷ bare τ4 l9 ∷ bare τ5 l10 ∷ bare tyBool l11 ∷ bare τ4 l12 ∷ bare τ5 l13 ∷ bare τ6 l14 ∷ bare τ7 l15 ∷ []) $ by ! (exits answer related written is-answer (same-related ∙ (same-found ∙ refl)) (same-written ∙ refl) (writes-whole k old new limit count work found explored old-sheet new-sheet rank some-count limit-is total total-is answer plan written is-written))
 
@@ -124,7 +122,7 @@ module _ {M : Type 1} (𝓤 : URA M) (H : Heap 𝓤) (A : Atoms 𝓤) (W : Given
           assigns ! (addr ! (from ! (fld ! refl (hop ! (look-in ! 30 (sub ! 0 refl (whole !))) (stop !))))) (from ! (stop !)) (init ! 20 refl (tt, tt)) $
           assigns ! (agg ! (and-then ! (load ! (from ! (stop !)) (look ! 20 refl)) (and-then ! (load ! (from ! (fld ! refl (stop !))) (look-in ! 30 (sub ! 1 refl (whole !)))) (no-more !)))) (from ! (stop !)) (init ! 18 refl (tt, (tt, (record { fits = room-work .0 }, tt)))) $
           share ! u8 (named 0) κ-old (lentAt b-old o-old γ-old old) (s-old ∷ []) (move ! (3 ∷ []) $ share ! u8 (named 1) κ-new (lentAt b-new o-new γ-new new) (s-new ∷ []) (move ! (6 ∷ 7 ∷ []) $ lend ! tt Record-row.the-row (named 2) κ-work q-work γ-work b-work o-work (length work) work refl (λ ν-3-work δ-3-work. move ! (7 ∷ 5 ∷ 8 ∷ 3 ∷ 0 ∷ 1 ∷ []) $
-          calls-explore 𝓤 H A W mem run κ-old q-old (lentAt b-old o-old γ-old old) s-old κ-new q-new (lentAt b-new o-new γ-new new) s-new k limit (ν-3-work ∷ []) fullShare (lentAt b-work o-work δ-3-work work) s-work (fmOf 𝓤 H (W .laws) 𝓣) known-explore fits-k fits-limit (old-sheet, new-sheet, rank, limit-few limit (length work) limit-is .0, limit-few limit (length work) limit-is .1)
+          calls-explore 𝓤 H A W mem run κ-old q-old (lentAt b-old o-old γ-old old) s-old κ-new q-new (lentAt b-new o-new γ-new new) s-new k limit (ν-3-work ∷ []) fullShare (lentAt b-work o-work δ-3-work work) s-work (fmOf 𝓤 H (W .laws) 𝓣) known-explore fits-k fits-limit (search-needs work old-sheet new-sheet rank limit-is)
           (and-then ! (load ! (from ! (stop !)) (look ! 32 refl)) (and-then ! (load ! (from ! (stop !)) (look ! 30 refl)) (and-then ! (load ! (from ! (stop !)) (look ! 34 refl)) (and-then ! (load ! (from ! (stop !)) (look ! 24 refl)) (and-then ! (load ! (from ! (stop !)) (look ! 16 refl)) (no-more !)))))) (λ count found fits-count same-found explored.
           move ! (2 ∷ 4 ∷ 3 ∷ []) $ regain ! tt Record-row.the-row (named 2) κ-work q-work γ-work b-work o-work (length work) work refl ν-3-work δ-3-work found room-work same-found (move ! (5 ∷ 2 ∷ 4 ∷ 3 ∷ 0 ∷ 1 ∷ 6 ∷ 7 ∷ []) $ land ! (from ! (stop !)) (init ! 24 refl (tt, record { fits = fits-count })) $
           assigns ! (bin ! (load ! (from ! (stop !)) (look ! 24 refl)) (lit ! tt) tt) (from ! (stop !)) (init ! 16 refl (tt, tt)) $
@@ -141,7 +139,7 @@ module _ {M : Type 1} (𝓤 : URA M) (H : Heap 𝓤) (A : Atoms 𝓤) (W : Given
           (and-then ! (load ! (from ! (stop !)) (look ! 25 refl)) (no-more !)) (λ total fits-total total-is.
           land ! (from ! (stop !)) (store ! 22 refl (tt, record { fits = fits-total })) $
           share ! u8 (named 0) κ-old (lentAt b-old o-old γ-old old) (s-old ∷ []) (move ! (3 ∷ []) $ share ! u8 (named 1) κ-new (lentAt b-new o-new γ-new new) (s-new ∷ []) (move ! (6 ∷ 7 ∷ []) $ lend ! tt Record-row.the-row (named 2) κ-work q-work γ-work b-work o-work (length work) found (same-found ∙ refl) (λ ν-7-work δ-7-work. move ! (9 ∷ 10 ∷ []) $ lend ! tt u8 (named 3) κ-plan q-plan γ-plan b-plan o-plan (length plan) plan refl (λ ν-7-plan δ-7-plan. move ! (10 ∷ 8 ∷ 11 ∷ 6 ∷ 3 ∷ 4 ∷ 0 ∷ 1 ∷ []) $
-          calls-relate 𝓤 H A W mem run k κ-old q-old (lentAt b-old o-old γ-old old) s-old κ-new q-new (lentAt b-new o-new γ-new new) s-new (ν-7-work ∷ []) fullShare (lentAt b-work o-work δ-7-work found) s-work (ν-7-plan ∷ []) fullShare (lentAt b-plan o-plan δ-7-plan plan) s-plan total (fmOf 𝓤 H (W .laws) 𝓣) known-relate fits-k fits-total (work-table k old new limit count work found explored old-sheet new-sheet rank some-count limit-is total total-is)
+          calls-relate 𝓤 H A W mem run k κ-old q-old (lentAt b-old o-old γ-old old) s-old κ-new q-new (lentAt b-new o-new γ-new new) s-new (ν-7-work ∷ []) fullShare (lentAt b-work o-work δ-7-work found) s-work (ν-7-plan ∷ []) fullShare (lentAt b-plan o-plan δ-7-plan plan) s-plan total (fmOf 𝓤 H (W .laws) 𝓣) known-relate fits-k fits-total (searched-table k old new limit count work found explored old-sheet new-sheet rank some-count limit-is total total-is) (some-total k old new limit count work found explored old-sheet new-sheet rank some-count limit-is total total-is)
           (and-then ! (load ! (from ! (stop !)) (look ! 33 refl)) (and-then ! (load ! (from ! (stop !)) (look ! 31 refl)) (and-then ! (load ! (from ! (stop !)) (look ! 29 refl)) (and-then ! (load ! (from ! (stop !)) (look ! 9 refl)) (and-then ! (load ! (from ! (stop !)) (look ! 5 refl)) (and-then ! (load ! (from ! (stop !)) (look ! 19 refl)) (no-more !))))))) (λ answer related written is-answer same-related same-written is-written.
           move ! (2 ∷ 7 ∷ 3 ∷ []) $ regain ! tt Record-row.the-row (named 2) κ-work q-work γ-work b-work o-work (length work) found (same-found ∙ refl) ν-7-work δ-7-work related room-work same-related (move ! (4 ∷ 6 ∷ 5 ∷ []) $ regain ! tt u8 (named 3) κ-plan q-plan γ-plan b-plan o-plan (length plan) plan refl ν-7-plan δ-7-plan written room-plan same-written (move ! (7 ∷ 4 ∷ 6 ∷ 5 ∷ 2 ∷ 3 ∷ 0 ∷ 1 ∷ []) $ land ! (from ! (stop !)) (init ! 38 refl (LL.lawful Answer-row.the-type Answer-laws.the-laws 𝓤 H A W .typed answer _ is-answer .0)) $
           forget ! 36 refl $ forget ! 34 refl $ forget ! 32 refl $ forget ! 30 refl $ forget ! 28 refl $ forget ! 26 refl $ forget ! 24 refl $ forget ! 22 refl $ forget ! 20 refl $ forget ! 18 refl $ forget ! 16 refl $ forget ! 14 refl $ forget ! 12 refl $ forget ! 10 refl $ forget ! 8 refl $ part-8 limit fits-limit limit-is count found fits-count same-found explored some-count total fits-total total-is answer related written is-answer same-related same-written is-written)))))))))))))))
