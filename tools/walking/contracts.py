@@ -205,7 +205,7 @@ class Signature:
         return self.name.split('::')[-1].replace('_', '-')
 
     def key(self):
-        return f'#{self.crate}·' + '·'.join(x.replace('_', '-') for x in self.name.split('::'))
+        return '#' + '·'.join(x.replace('_', '-') for x in [self.crate] + self.name.split('::'))
 
     def module(self, crate):
         path = self.name.replace('::', '.')
@@ -213,11 +213,14 @@ class Signature:
 
     # the module of the step of a call of it, in a walk of the crate, and the file if that is the crate's own
     def step(self, crate):
-        name = ''.join(x.capitalize() for x in re.split(r'_|::', self.name))
+        def capitals(name):
+            return ''.join(x.capitalize() for x in re.split(r'_|::', name))
+
+        name = capitals(self.name)
         if self.crate != crate:
             if Path('crates', self.crate, 'proofs', 'calls', name + '.antt').exists():
                 return f'Rattle.{self.crate}.proofs.calls.{name}', None
-            name = self.crate.capitalize() + name
+            name = capitals(self.crate) + name
         return f'Rattle.{crate}.proofs.calls.{name}', name
 
     def said(self, clause, entry, end, values, result=None):

@@ -123,11 +123,11 @@ pub fn answer(record: &[u8]) {
     if record.len() < 7 {
         return;
     }
-    let count = sheet::word_at(record, 0) as usize;
+    let count = little_endian::word_at(record, 0) as usize;
     if 5000 < count {
         return;
     }
-    let room = sheet::word_at(record, 2) as usize;
+    let room = little_endian::word_at(record, 2) as usize;
     let end = framing::part_end(record, 5);
     lend(record[4], &record[7..end], &record[end..], count, room);
 }

@@ -138,8 +138,8 @@ fn followed(client: &[u8], service: &[u8], plan: &[u8], attempts: &[u8], start: 
     let mut run = start;
     let mut at: usize = 0;
     while 5 <= attempts.len() - at {
-        let R = sheet::word_at(attempts, at);
-        let S = sheet::word_at(attempts, at + 2);
+        let R = little_endian::word_at(attempts, at);
+        let S = little_endian::word_at(attempts, at + 2);
         run = attempted(client, service, plan, run, R, S, attempts[at + 4]);
         at += 5;
     }

@@ -12,8 +12,8 @@ use Rattle.model.specs.Situation.{codes}
 use Rattle.model.specs.Plan.{Move, rowOf, planStates, planRows, planBytes}
 use Rattle.model.specs.Sheet.{contractIn}
 use Rattle.model.specs.Connect.{counted, emitted}
-use Rattle.plan.specs.Front.{front}
-use Rattle.plan.proofs.Front.{front-none}
+use Rattle.little_endian.specs.Front.{front}
+use Rattle.little_endian.proofs.Front.{front-none}
 use Rattle.keys.specs.Links.{nextIn, unmarked}
 use Rattle.table.specs.declared.Record.{Record}
 use Rattle.table.specs.Lists.{linksOf, marksOf, presentOf, orderOf, numbersOf}

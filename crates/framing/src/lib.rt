@@ -16,7 +16,7 @@ pub fn part_end(b: &[u8], at: usize) -> usize
     ensures { λ r. ⌜ r ≡ min (at + 2 + word (now (b .entry)) at) (length (now (b .entry))) ⌝ }
 {
     let behind = at + 2;
-    let size = sheet::word_at(b, at) as usize;
+    let size = little_endian::word_at(b, at) as usize;
     if b.len() - behind < size {
         return b.len();
     }
@@ -64,6 +64,6 @@ pub fn read_record(space: &mut [u8]) -> Record
             length: 0,
         };
     }
-    let size = sheet::word_at(&head, 0) as usize;
+    let size = little_endian::word_at(&head, 0) as usize;
     read_part(space, size)
 }

@@ -5,7 +5,6 @@ pub mod Looking
 pub mod Breadth
 pub mod Rows
 pub mod Bytes
-pub mod Written
 pub mod RowWritten
 pub mod PlanWritten
 pub mod Stored

@@ -11,7 +11,7 @@ use borrow.Rule.Slice.PartMut.{putMid, midOf}
 use Rattle.model.specs.Plan.{moveBytes, rowBytes}
 use Rattle.keys.specs.Links.{codeAt}
 use Rattle.keys.proofs.Bits.{slotsIn}
-use Rattle.plan.specs.Front.{front}
+use Rattle.little_endian.specs.Front.{front}
 use Rattle.table.specs.declared.Record.{Record}
 use Rattle.table.specs.Records.{blank}
 use Rattle.table.specs.Lists.{slotsOf, linksOf, presentOf, marksOf, numbersOf}

@@ -13,7 +13,7 @@ use Rattle.model.specs.Plan.{Move, moveBytes, rowBytes}
 use Rattle.model.proofs.PlanBytes.{length-moves}
 use Rattle.keys.specs.Links.{codeAt}
 use Rattle.keys.proofs.Bits.{slotsIn}
-use Rattle.plan.specs.Front.{front}
+use Rattle.little_endian.specs.Front.{front}
 use Rattle.plan.proofs.Written.{moves-append}
 use Rattle.numbering.specs.Kept.{keptLink, statesIn, rowIn, WorkLists, Shown}
 use Rattle.numbering.specs.Numbered.{Numbers}
@@ -21,7 +21,7 @@ use Rattle.keys.proofs.Left.{Left, left-end, left-found, found-set, found-among
 use Rattle.numbering.proofs.Kept.{kept-within, slot-none, slot-linked}
 use Rattle.numbering.proofs.Rows.{moveBy, rowFrom, row-end, row-few, row-whole, row-none, row-by-numbers, numbered-link, state-below}
 use Rattle.numbering.proofs.Bytes.{length-row, moves-shown}
-use Rattle.numbering.proofs.Written.{Written, written-length, written-then, rest-length}
+use Rattle.little_endian.proofs.Written.{Written, written-length, written-then, rest-length}
 
 -- ---- a move
 

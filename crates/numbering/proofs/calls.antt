@@ -3,13 +3,13 @@ pub mod FieldsNumbered
 pub mod FieldsRowLength
 pub mod KeysLowest
 pub mod KeysWithoutLowest
+pub mod LittleEndianPutByte
+pub mod LittleEndianPutDword
 pub mod NumberAddLinked
 pub mod NumberLookAt
 pub mod NumberNarrow
 pub mod NumberStates
 pub mod PlanLength
-pub mod PlanWritePutByte
-pub mod PlanWritePutDword
 pub mod PlanWritePutTrailer
 pub mod TableFieldsOrderOf
 pub mod TableFieldsOrdered

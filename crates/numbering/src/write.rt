@@ -6,7 +6,7 @@ ghost use Prim.Native.Nat.{_+_, _-_, _*_, _≤_, _<_};
 ghost use lib.ListN.{length};
 ghost use Rattle.model.specs.Plan.{moveBytes, rowBytes, rowsBytes, indexBytes};
 ghost use Rattle.keys.specs.Links.{codeAt};
-ghost use Rattle.plan.specs.Front.{front};
+ghost use Rattle.little_endian.specs.Front.{front};
 ghost use Rattle.table.specs.Lists.{linksOf, presentOf, marksOf, orderOf, numbersOf};
 ghost use Rattle.numbering.specs.Kept.{statesIn, rowIn, rowsIn, WorkLists, Shown};
 ghost use Rattle.numbering.specs.Numbered.{InOrder, Numbers, Numbered};
@@ -63,7 +63,7 @@ pub fn write_row(work: &[table::Record], count: usize, i: usize, out: &mut [u8])
 {
     let y = table::load(work, i);
     let mut rest = table::fields::slots_of(y);
-    plan::write::put_byte(out, fields::moves_in(rest));
+    little_endian::put_byte(out, fields::moves_in(rest));
     let mut at: usize = 1;
     while rest != 0 {
         let slot = keys::lowest(rest);
@@ -102,7 +102,7 @@ pub fn write_index(work: &[table::Record], count: usize, states: u16, out: &mut 
     let mut at: usize = 0;
     let mut p: usize = 0;
     while p < last {
-        plan::write::put_dword(&mut out[at..], row);
+        little_endian::put_dword(&mut out[at..], row);
         let s = table::load(work, p);
         let y = table::load(work, table::fields::order_of(s));
         row = row + fields::row_length(y);

@@ -4,5 +4,4 @@ pub mod Rows
 pub mod Places
 pub mod Trailer
 pub mod Stands
-pub mod Front
 pub mod Written

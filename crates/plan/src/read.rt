@@ -3,27 +3,12 @@ ghost use mathlib.Core.Path.{_≡_};
 ghost use Prim.Native.Nat.{_+_, _*_, _≤_};
 ghost use lib.Dec.{ltb};
 ghost use lib.ListN.{length};
-ghost use Rattle.model.specs.Bytes.{word, dword};
 ghost use Rattle.model.specs.Contract.{name};
 ghost use Rattle.model.specs.Situation.{kindOf};
 ghost use Rattle.model.specs.Plan.{namedBelow, goodRow, readMoves, readRows, readPlan};
 ghost use Rattle.plan.specs.Layout.{isSome, moveAt, goodMove, goodPlace, goodTrailer};
-
-// The 16-bit number at a place.
-pub fn word_at(plan: &[u8], i: usize) -> u16
-    requires { ⌜ i + 2 ≤ length (now plan) ⌝ }
-    ensures { λ r. ⌜ r ≡ word (now (plan .entry)) i ⌝ }
-{
-    plan[i] as u16 + 256 * (plan[i + 1] as u16)
-}
-
-// The 32-bit number at a place.
-pub fn dword_at(plan: &[u8], i: usize) -> u32
-    requires { ⌜ i + 4 ≤ length (now plan) ⌝ }
-    ensures { λ r. ⌜ r ≡ dword (now (plan .entry)) i ⌝ }
-{
-    word_at(plan, i) as u32 + 65536 * (word_at(plan, i + 2) as u32)
-}
+use little_endian::dword_at;
+use little_endian::word_at;
 
 // Whether the name of an action is below n.
 pub fn named(j: u8, n: u8) -> bool

@@ -1,9 +1,9 @@
 // Contract sheets: whether bytes are a sheet, and what stands in one. Document 01, "Contracts as sheets".
 ghost use mathlib.Core.Path.{_≡_};
 ghost use mathlib.Core.Bool.{true};
-ghost use Prim.Native.Nat.{_+_, _≤_, _<_};
+ghost use Prim.Native.Nat.{_≤_, _<_};
 ghost use lib.ListN.{length, getD};
-ghost use Rattle.model.specs.Bytes.{byte, word};
+ghost use Rattle.model.specs.Bytes.{byte};
 ghost use Rattle.model.specs.Contract.{state, has, offers, after};
 ghost use Rattle.model.specs.Sheet.{readSheet, contractIn, roleIn};
 ghost use Rattle.sheet.specs.Union.{unionOf, onesBelow};
@@ -13,6 +13,7 @@ ghost use Rattle.sheet.specs.Offer.{offerIn, placeIn};
 
 mod parts;
 
+use little_endian::word_at;
 use parts::check_states;
 use parts::good_trailer;
 use parts::read_trailer;
@@ -29,14 +30,6 @@ pub enum Checked {
 pub struct Offer {
     pub actions: u16,
     pub successors: usize,
-}
-
-// The 16-bit number at an offset.
-pub fn word_at(b: &[u8], i: usize) -> u16
-    requires { ⌜ i + 1 < length (now b) ⌝ }
-    ensures { λ r. ⌜ r ≡ word (now (b .entry)) i ⌝ }
-{
-    b[i] as u16 + 256 * (b[i + 1] as u16)
 }
 
 // Whether a mask has bit j.

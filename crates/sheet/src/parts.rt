@@ -9,7 +9,7 @@ ghost use Rattle.model.specs.Sheet.{trailer, goodTrailer, strayBit, masksFrom, 
 ghost use Rattle.sheet.specs.Answers.{trailerOf, checkedOf, unionIn, behindIn};
 use super::Checked;
 use super::ones_below;
-use super::word_at;
+use little_endian::word_at;
 
 // The last 6 bytes of a sheet.
 pub struct Trailer {

@@ -8,7 +8,7 @@ use Rattle.table.specs.Lists.{linksOf, marksOf, numbersOf, presentOf}
 use Rattle.numbering.specs.Numbered.{Numbers}
 use mathlib.Core.List.{List·Memᴰ}
 use Rattle.model.specs.Plan.{rowBytes}
-use Rattle.plan.specs.Front.{front}
+use Rattle.little_endian.specs.Front.{front}
 use Rattle.table.proofs.Record as Record-row
 use Rattle.table.specs.declared.Record.{Record}
 

@@ -31,7 +31,7 @@ use Rattle.numbering.specs.Kept.{Shown, WorkLists, rowsIn, statesIn}
 use Rattle.table.specs.Lists.{linksOf, marksOf, numbersOf, orderOf, presentOf}
 use Rattle.numbering.specs.Numbered.{Numbered}
 use Rattle.model.specs.Plan.{rowsBytes}
-use Rattle.plan.specs.Front.{front}
+use Rattle.little_endian.specs.Front.{front}
 use Rattle.numbering.proofs.calls.WriteOffsetOf.{calls-offset-of, offset-of-contract}
 use Rattle.numbering.proofs.write.offset_of.Symbol as offset-of-def
 use Rattle.numbering.proofs.write.offset_of.Symbol.{name as #numbering·write·offset-of}

@@ -1,9 +1,9 @@
--- The step of a call of `plan::write::put_dword` in a walk. Written by tools/walk.
+-- The step of a call of `little_endian::put_dword` in a walk. Written by tools/walk.
 -- Assumes nothing.
 use Rattle.walks.proofs.Logic.{_≡_, refl, sym, ap, subst, ℕ, _<_, _≤_, _^_, List, [], _∷_, length, URA, Place, Operand, Body, seq, call, named, w32, Val, vunit, vint, SProp, ent, id⊢, Lft, Share, ftrue, flft, Memory, Routine, Heap, Env, Calls, Loops, Atoms, Fun, fact, Given, Goal, Soaks, Item, Go, Sq, Post, runs, lands, settles, ‵, raw, _⊛_, some, later, ⋆, _$_, _∵_, !, qed, cut, move, drop, use1, split, join, pick, fsplit, fjoin, feqL, await, done, Opds, FmC, Is, RefT, MutSlice, finally, uint-makes, u8, u32, unit, only, owned, heard, nothing, tripleOf, Contract, Triple, calls-at, calls-at-last, ensured, lasts, says}
-use Rattle.plan.proofs.write.put_dword as callee
-use Rattle.plan.proofs.write.put_dword.Symbol.{name as #plan·write·put-dword}
-use Rattle.plan.specs.Front.{front}
+use Rattle.little_endian.proofs.put_dword as callee
+use Rattle.little_endian.proofs.put_dword.Symbol.{name as #little-endian·put-dword}
+use Rattle.little_endian.specs.Front.{front}
 use Rattle.model.specs.Bytes.{le32}
 
 abbrev pub put-dword-contract : {M : Type 1} (𝓤 : URA M) (H : Heap 𝓤) (A : Atoms 𝓤) (mem : Memory → SProp 𝓤) (run : Routine → Fun 𝓤) → Contract 𝓤
@@ -27,12 +27,12 @@ module _ {M : Type 1} (𝓤 : URA M) (H : Heap 𝓤) (A : Atoms 𝓤) (W : Given
         subst (λ (u· : Val). Sq W (‵ (flft κ-out q-out) ∷ ‵ (finally u8 (out .name) (ws· .0)) ∷ Γ) (goal· u·)) (sym (ap only u·)) (k· (ws· .0) l-out e·))))))
 
     module _ {C : Calls 𝓤 H} {Λ : Loops 𝓤 H} {E· : Env 𝓤 H} {p· : Post 𝓤 H} {d· : Place} {xs· : List Operand} where
-      pub calls-put-dword : {rest· : Body} → FmC 𝓤 H (W .laws) C → Triple 𝓤 (C #plan·write·put-dword) (put-dword-contract 𝓤 H A mem run) → (x < 2 ^ 32) → (4 ≤ length ((out .now))) → Opds (Go {0}) W (raw (put-dword-contract 𝓤 H A mem run .pre bound) ∷ Γ) E· xs· (s-out ∷ vint w32 x ∷ [])
-          → ((out′ : List ℕ) → (length out′ ≡ length (out .now)) → (out′ ≡ front (le32 x) ((out .now))) → Sq W (‵ (flft κ-out q-out) ∷ ‵ (finally u8 (out .name) out′) ∷ Γ) (lands C Λ E· d· (vunit) rest· p·)) → Sq W (‵ (flft κ-out q-out) ∷ ‵ (MutSlice (named 0) κ-out u8 .own out (s-out ∷ [])) ∷ Γ) (runs C Λ E· (seq (call #plan·write·put-dword xs· d·) rest·) p·)
+      pub calls-put-dword : {rest· : Body} → FmC 𝓤 H (W .laws) C → Triple 𝓤 (C #little-endian·put-dword) (put-dword-contract 𝓤 H A mem run) → (x < 2 ^ 32) → (4 ≤ length ((out .now))) → Opds (Go {0}) W (raw (put-dword-contract 𝓤 H A mem run .pre bound) ∷ Γ) E· xs· (s-out ∷ vint w32 x ∷ [])
+          → ((out′ : List ℕ) → (length out′ ≡ length (out .now)) → (out′ ≡ front (le32 x) ((out .now))) → Sq W (‵ (flft κ-out q-out) ∷ ‵ (finally u8 (out .name) out′) ∷ Γ) (lands C Λ E· d· (vunit) rest· p·)) → Sq W (‵ (flft κ-out q-out) ∷ ‵ (MutSlice (named 0) κ-out u8 .own out (s-out ∷ [])) ∷ Γ) (runs C Λ E· (seq (call #little-endian·put-dword xs· d·) rest·) p·)
       calls-put-dword {rest·} fm· known· fits-x needed operands· k· = cut {W = W} (‵ (flft κ-out q-out) ∷ ‵ (MutSlice (named 0) κ-out u8 .own out (s-out ∷ [])) ∷ []) (raw (put-dword-contract 𝓤 H A mem run .pre bound) ∷ []) Γ (goes fits-x needed) $
           calls-at ! fm· (put-dword-contract 𝓤 H A mem run) known· bound operands· (λ w·. after (λ u·. lands C Λ E· d· u· rest· p·) (λ u·. tt) k· w·)
 
-      pub calls-put-dword-last : FmC 𝓤 H (W .laws) C → Triple 𝓤 (C #plan·write·put-dword) (put-dword-contract 𝓤 H A mem run) → (x < 2 ^ 32) → (4 ≤ length ((out .now))) → Opds (Go {0}) W (raw (put-dword-contract 𝓤 H A mem run .pre bound) ∷ Γ) E· xs· (s-out ∷ vint w32 x ∷ [])
-          → ((out′ : List ℕ) → (length out′ ≡ length (out .now)) → (out′ ≡ front (le32 x) ((out .now))) → Sq W (‵ (flft κ-out q-out) ∷ ‵ (finally u8 (out .name) out′) ∷ Γ) (settles E· d· (vunit) p·)) → Sq W (‵ (flft κ-out q-out) ∷ ‵ (MutSlice (named 0) κ-out u8 .own out (s-out ∷ [])) ∷ Γ) (runs C Λ E· (call #plan·write·put-dword xs· d·) p·)
+      pub calls-put-dword-last : FmC 𝓤 H (W .laws) C → Triple 𝓤 (C #little-endian·put-dword) (put-dword-contract 𝓤 H A mem run) → (x < 2 ^ 32) → (4 ≤ length ((out .now))) → Opds (Go {0}) W (raw (put-dword-contract 𝓤 H A mem run .pre bound) ∷ Γ) E· xs· (s-out ∷ vint w32 x ∷ [])
+          → ((out′ : List ℕ) → (length out′ ≡ length (out .now)) → (out′ ≡ front (le32 x) ((out .now))) → Sq W (‵ (flft κ-out q-out) ∷ ‵ (finally u8 (out .name) out′) ∷ Γ) (settles E· d· (vunit) p·)) → Sq W (‵ (flft κ-out q-out) ∷ ‵ (MutSlice (named 0) κ-out u8 .own out (s-out ∷ [])) ∷ Γ) (runs C Λ E· (call #little-endian·put-dword xs· d·) p·)
       calls-put-dword-last fm· known· fits-x needed operands· k· = cut {W = W} (‵ (flft κ-out q-out) ∷ ‵ (MutSlice (named 0) κ-out u8 .own out (s-out ∷ [])) ∷ []) (raw (put-dword-contract 𝓤 H A mem run .pre bound) ∷ []) Γ (goes fits-x needed) $
           calls-at-last ! fm· (put-dword-contract 𝓤 H A mem run) known· bound operands· (λ w·. after (λ u·. settles E· d· u· p·) (λ u·. tt) k· w·)

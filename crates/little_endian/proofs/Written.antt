@@ -7,8 +7,8 @@ use Prim.Native.Nat.{ℕ, _+_, _-_, _≤_}
 use native.Mathlib.Omega.{arith}
 use lib.ListN.{length, length-append, length-take, length-drop}
 use borrow.Rule.Slice.PartMut.{putMid, midOf}
-use Rattle.plan.specs.Front.{front}
-use Rattle.plan.proofs.Front.{length-front, front-then}
+use Rattle.little_endian.specs.Front.{front}
+use Rattle.little_endian.proofs.Front.{length-front, front-then}
 
 -- w is written at the front of `out`, which was `first`, up to the place `at`
 pub record Written (w first out : List ℕ) (at : ℕ) : Type 0 where
