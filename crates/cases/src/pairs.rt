@@ -1,4 +1,4 @@
-// A record is the number of lent records (16 bits), that of lent plan bytes (16 bits), and the connecting program's input: k, the first sheet
+// A case is the number of lent records (16 bits), that of lent plan bytes (16 bits), and the connecting program's input: k, the first sheet
 // behind its length, and the second. Its line: number, sheet, state; situations, plan states, rounds; plan length; digest of the lent plan;
 // lent records that are zero, and lent records that are as they were.
 ghost use mathlib.Core.Path.{_≡_};
@@ -119,15 +119,15 @@ fn lend(k: u8, old: &[u8], new: &[u8], count: usize, room: usize)
     print_case(k, old, new, count, &mut plan[..room]);
 }
 
-pub fn answer(record: &[u8]) {
-    if record.len() < 7 {
+pub fn answer(case: &[u8]) {
+    if case.len() < 7 {
         return;
     }
-    let count = little_endian::word_at(record, 0) as usize;
+    let count = little_endian::word_at(case, 0) as usize;
     if 5000 < count {
         return;
     }
-    let room = little_endian::word_at(record, 2) as usize;
-    let end = framing::part_end(record, 5);
-    lend(record[4], &record[7..end], &record[end..], count, room);
+    let room = little_endian::word_at(case, 2) as usize;
+    let end = framing::part_end(case, 5);
+    lend(case[4], &case[7..end], &case[end..], count, room);
 }

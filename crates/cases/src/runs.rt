@@ -1,8 +1,8 @@
-// A record is a client sheet, a service sheet and a plan, each behind its length, and attempts of five bytes: R and S (16 bits each) and a
+// A case is a client sheet, a service sheet and a plan, each behind its length, and attempts of five bytes: R and S (16 bits each) and a
 // code. Its lines: for each attempt 1 for a move or 0, and number and next state of stepping; then the state after the list.
 ghost use mathlib.Core.Path.{_≡_};
 ghost use Prim.Native.Nat.{_<_};
-ghost use Rattle.model.specs.Contract.{partner, state};
+ghost use Rattle.model.specs.Contract.{state};
 ghost use Rattle.model.specs.Sheet.{contractIn};
 ghost use Rattle.model.specs.Situation.{kindOf};
 ghost use Rattle.model.specs.Test.{listed};
@@ -20,20 +20,13 @@ pub struct Run {
     pub longest: u16,
 }
 
-fn partner(j: u8) -> u8
-    requires { ⌜ j < 14 ⌝ }
-    ensures { λ r. ⌜ (r ≡ partner j) × (r < 14) ⌝ }
-{
-    if j < 7 { j + 7 } else { j - 7 }
-}
-
 // Whether the masks have what a code needs.
 pub fn need_met(R: u16, S: u16, code: u8) -> bool
     ensures { λ r. ⌜ r ≡ need R S (kindOf code) ⌝ }
 {
     match code {
-        0..=13 => sheet::has_bit(S, code) && sheet::has_bit(R, partner(code)),
-        16..=29 => sheet::has_bit(R, partner(code - 16)),
+        0..=13 => sheet::has_bit(S, code) && sheet::has_bit(R, sheet::partner(code)),
+        16..=29 => sheet::has_bit(R, sheet::partner(code - 16)),
         32..=45 => sheet::has_bit(S, code - 32),
         _ => false,
     }
@@ -82,14 +75,14 @@ fn moved(client: &[u8], service: &[u8], run: Run, code: u8, to: u16) -> Run
 {
     match code {
         0..=13 => Run {
-            client: gone_on(client, run.client, partner(code)),
+            client: gone_on(client, run.client, sheet::partner(code)),
             service: gone_on(service, run.service, code),
             plan: to,
             alone: 0,
             longest: run.longest,
         },
         16..=29 => Run {
-            client: gone_on(client, run.client, partner(code - 16)),
+            client: gone_on(client, run.client, sheet::partner(code - 16)),
             service: run.service,
             plan: to,
             alone: 0,
@@ -197,10 +190,10 @@ fn follow_behind_client(client: &[u8], rest: &[u8]) {
     follow_behind_service(client, &rest[2..end], &rest[end..]);
 }
 
-pub fn answer(record: &[u8]) {
-    if record.len() < 2 {
+pub fn answer(case: &[u8]) {
+    if case.len() < 2 {
         return;
     }
-    let end = framing::part_end(record, 0);
-    follow_behind_client(&record[2..end], &record[end..]);
+    let end = framing::part_end(case, 0);
+    follow_behind_client(&case[2..end], &case[end..]);
 }

@@ -6,7 +6,7 @@ ghost use lib.ListN.{length};
 ghost use Rattle.model.specs.Contract.{name};
 ghost use Rattle.model.specs.Situation.{kindOf};
 ghost use Rattle.model.specs.Plan.{namedBelow, goodRow, readMoves, readRows, readPlan};
-ghost use Rattle.plan.specs.Layout.{isSome, moveAt, goodMove, goodPlace, goodTrailer};
+ghost use Rattle.plan.specs.Layout.{isSome, moveAt, goodMove, goodPlace, figuresInRange};
 use little_endian::dword_at;
 use little_endian::word_at;
 
@@ -104,8 +104,8 @@ pub fn good_rows(plan: &[u8], index: usize, count: u16, n: u8) -> bool
 }
 
 // Whether a plan can have count states, n names and the rank k.
-pub fn good_trailer(count: u16, n: u8, k: u8) -> bool
-    ensures { λ r. ⌜ r ≡ goodTrailer count n k ⌝ }
+pub fn figures_in_range(count: u16, n: u8, k: u8) -> bool
+    ensures { λ r. ⌜ r ≡ figuresInRange count n k ⌝ }
 {
     if count < 1 {
         return false;
@@ -130,7 +130,7 @@ pub fn is_plan(plan: &[u8]) -> bool
     let index = dword_at(plan, end - 8) as usize;
     let count = word_at(plan, end - 4);
     let n = plan[end - 2];
-    if good_trailer(count, n, plan[end - 1]) {
+    if figures_in_range(count, n, plan[end - 1]) {
         if index + 4 * (count as usize) + 8 == end {
             return good_rows(plan, index, count, n);
         }

@@ -9,7 +9,7 @@ use native.Mathlib.Omega.{arith}
 use lib.ListN.{length, getD}
 use Rattle.model.specs.Contract.{Contract}
 use Rattle.model.specs.Sheet.{contractIn}
-use Rattle.keys.proofs.Chained.{walk-start, walk-most, walk-less, walk-next}
+use Rattle.keys.proofs.Chained.{chain-start, chain-most, chain-less, chain-next}
 use Rattle.table.specs.declared.Record.{Record}
 use Rattle.table.specs.Records.{blank}
 use Rattle.table.specs.Lists.{linksOf, lastOf, beforeOf, marksOf, orderOf}
@@ -46,7 +46,7 @@ module _ {old new : List ℕ} {count round t kind upto : ℕ} (work : List Recor
   pub into-starts : {at : ℕ} → at ≡ getD (getD work t blank .last) kind 0 → LookingInto (contractIn old) (contractIn new) count t kind upto work work upto at
   into-starts at-is = record {
     looked = looked-work-none σ₀ τ₀ count upto work;
-    sources = walk-start (w .chained kind k) t h (λ entry. Judged (passedIn σ₀ τ₀ work) (marksOf work) (entry / 14)) (last-held work (omega (arith, v .situated .room)) k at-is);
+    sources = chain-start (w .chained kind k) t h (λ entry. Judged (passedIn σ₀ τ₀ work) (marksOf work) (entry / 14)) (last-held work (omega (arith, v .situated .room)) k at-is);
   }
 
   module _ {works : List Record} {end at : ℕ} (on : LookingInto (contractIn old) (contractIn new) count t kind upto work works end at) where
@@ -55,7 +55,7 @@ module _ {old new : List ℕ} {count round t kind upto : ℕ} (work : List Recor
 
     module _ (some : 0 < at) {i : ℕ} (i-is : i ≡ (at - 1) / 14) where
       source : i < count
-      source = let most = walk-most (w .chained kind k) t h (on .sources) in omega arith
+      source = let most = chain-most (w .chained kind k) t h (on .sources) in omega arith
 
       pub into-needs : Looking old new count round end works × (i < count)
       into-needs = (looking-still v (on .looked), source)
@@ -72,7 +72,7 @@ module _ {old new : List ℕ} {count round t kind upto : ℕ} (work : List Recor
           held = before-held works′ into-there k at i-is slot-is next-is ∙ ap (λ (l : List ℕ). getD l (slotAt kind (at - 1)) 0) (both .rest .steady .before)
 
           pub into-nearer : next < at
-          into-nearer = walk-less (w .chained kind k) t h (on .sources) some held
+          into-nearer = chain-less (w .chained kind k) t h (on .sources) some held
 
           here : Judged (passedIn (contractIn old) (contractIn new) work) (marksOf works′) ((at - 1) / 14)
           here = subst (λ (passed : ℕ → Bool). Judged passed (marksOf works′) ((at - 1) / 14)) (passed-before σ₀ τ₀ (on .looked .rest))
@@ -81,7 +81,7 @@ module _ {old new : List ℕ} {count round t kind upto : ℕ} (work : List Recor
           pub into-on : LookingInto (contractIn old) (contractIn new) count t kind upto work works′ end′ next
           into-on = record {
             looked = both;
-            sources = walk-next (w .chained kind k) t h (on .sources) some held (λ entry d. still (on .looked) (into .0) (entry / 14) d) here;
+            sources = chain-next (w .chained kind k) t h (on .sources) some held (λ entry d. still (on .looked) (into .0) (entry / 14) d) here;
           }
 
 -- ---- into a part of the queue

@@ -11,7 +11,7 @@ use lib.ListN.{length, getD, set, length-set}
 use lib.Dec.{eqb}
 use borrow.Author.Tests.{eq-eqb, eqb-true}
 use Rattle.model.specs.Contract.{has}
-use Rattle.keys.proofs.Chained.{Walk, walk-start, walk-most, walk-class, walk-less, walk-next, walk-end}
+use Rattle.keys.proofs.Chained.{AlongChain, chain-start, chain-most, chain-class, chain-less, chain-next, chain-end}
 use Rattle.rounds.specs.Chains.{slotAt, targetAt, intoOf, Listed}
 use Rattle.rounds.specs.Masks.{Fewer, Lost, Into, LostInto}
 use Rattle.rounds.proofs.Bits.{bit-after, fewer-after}
@@ -29,7 +29,7 @@ and-true false = refl
 
 -- the entries passed have lost their bit, and no bit of another move has changed
 pub record Losing (count : ℕ) (links : List ℕ) (t kind : ℕ) (present₀ present : List ℕ) (at : ℕ) : Type 0 where
-  pub walk : Walk (targetAt count links kind) t (14 * count) (λ entry. has (getD present (3 * (entry / 14) + kind) 0) (entry % 14) ≡ false) at
+  pub along : AlongChain (targetAt count links kind) t (14 * count) (λ entry. has (getD present (3 * (entry / 14) + kind) 0) (entry % 14) ≡ false) at
   pub rest : (row j : ℕ) → row < 3 * count → j < 14 → intoOf links t kind row j ≡ false → has (getD present row 0) j ≡ has (getD present₀ row 0) j
   pub fewer : Fewer present₀ present
   pub size : length present ≡ length present₀
@@ -38,7 +38,7 @@ module _ {count : ℕ} {links last before : List ℕ} (w : Listed count links co
   pub losing-start : {at : ℕ} → at ≡ getD last (3 * t + kind) 0 → Losing count links t kind present₀ present₀ at
   losing-start e =
       record {
-        walk = walk-start (w .chained kind k) t h (λ entry. has (getD present₀ (3 * (entry / 14) + kind) 0) (entry % 14) ≡ false) e;
+        along = chain-start (w .chained kind k) t h (λ entry. has (getD present₀ (3 * (entry / 14) + kind) 0) (entry % 14) ≡ false) e;
         rest = λ row j a b c. refl;
         fewer = λ row. omega arith;
         size = refl;
@@ -46,11 +46,11 @@ module _ {count : ℕ} {links last before : List ℕ} (w : Listed count links co
 
   module _ {present : List ℕ} {at : ℕ} (v : Losing count links t kind present₀ present at) where
     pub losing-most : at ≤ 14 * count
-    losing-most = walk-most (w .chained kind k) t h (v .walk)
+    losing-most = chain-most (w .chained kind k) t h (v .along)
 
     module _ (some : 0 < at) where
       pub losing-less : {next : ℕ} → next ≡ getD before (slotAt kind (at - 1)) 0 → next < at
-      losing-less e = walk-less (w .chained kind k) t h (v .walk) some e
+      losing-less e = chain-less (w .chained kind k) t h (v .along) some e
 
       module _ (mask : ℕ) (room : 3 * ((at - 1) / 14) + kind < length present)
           (less : ((b : ℕ) → b < 16 → has mask b ≡ (has (getD present (3 * ((at - 1) / 14) + kind) 0) b && not (eqb b ((at - 1) % 14)))) × (mask ≤ getD present (3 * ((at - 1) / 14) + kind) 0)) where
@@ -71,7 +71,7 @@ module _ {count : ℕ} {links last before : List ℕ} (w : Listed count links co
         other row j q = go (eqb row row₀) (eqb j j₀) refl refl
           where
             own : intoOf links t kind row₀ j₀ ≡ true
-            own = target-into count links t kind (at - 1) h k (walk-class (w .chained kind k) t h (v .walk) some)
+            own = target-into count links t kind (at - 1) h k (chain-class (w .chained kind k) t h (v .along) some)
 
             go : (a b : Bool) → eqb row row₀ ≡ a → eqb j j₀ ≡ b → (a && b) ≡ false
             go false b d e = refl
@@ -83,7 +83,7 @@ module _ {count : ℕ} {links last before : List ℕ} (w : Listed count links co
             → Losing count links t kind present₀ (set present (3 * ((at - 1) / 14) + kind) mask) next
         losing-next e =
             record {
-              walk = walk-next (w .chained kind k) t h (v .walk) some e
+              along = chain-next (w .chained kind k) t h (v .along) some e
                   (λ entry d. after (3 * (entry / 14) + kind) (entry % 14) (omega arith) ∙ rw d) here;
               rest = λ row j a b c. after row j (omega arith) ∙ rw (other row j c) (and-true (has (getD present row 0) j)) ∙ v .rest row j a b c;
               fewer = λ row. omega (arith, fewer-after present row₀ mask room (less .1) row, v .fewer row);
@@ -100,7 +100,7 @@ module _ {count : ℕ} {links last before : List ℕ} (w : Listed count links co
             let entry = 14 * (row / 3) + j in
             let row-is : 3 * (entry / 14) + kind ≡ row = omega (arith, entry-row row j b) in
             let lost : has (getD present (3 * (entry / 14) + kind) 0) (entry % 14) ≡ false =
-            walk-end (w .chained kind k) t h (v .walk) none entry (omega arith) (into-target count links t kind row j b e) in
+            chain-end (w .chained kind k) t h (v .along) none entry (omega arith) (into-target count links t kind row j b e) in
             sym (ap (λ (r : ℕ). has (getD present r 0) j) row-is) ∙ sym (ap (λ (j : ℕ). has (getD present (3 * (entry / 14) + kind) 0) j) (entry-action row j b)) ∙ lost ∙ sym (and-false (has (getD present₀ row 0) j))
 
 -- ---- into a part of the queue

@@ -4,10 +4,10 @@ ghost use mathlib.Core.Bool.{true};
 ghost use Prim.Native.Nat.{_≤_, _<_};
 ghost use lib.ListN.{length, getD};
 ghost use Rattle.model.specs.Bytes.{byte};
-ghost use Rattle.model.specs.Contract.{state, has, offers, after};
+ghost use Rattle.model.specs.Contract.{partner, state, has, offers, after};
 ghost use Rattle.model.specs.Sheet.{readSheet, contractIn, roleIn};
 ghost use Rattle.sheet.specs.Union.{unionOf, onesBelow};
-ghost use Rattle.sheet.specs.Answers.{checkedOf};
+ghost use Rattle.sheet.specs.Answers.{findingOf};
 ghost use Rattle.sheet.specs.Whole.{IsSheet, rowStart};
 ghost use Rattle.sheet.specs.Offer.{offerIn, placeIn};
 
@@ -20,7 +20,7 @@ use parts::read_trailer;
 
 // Whether bytes are a sheet: whole, or a fault with its number in document 01's table, the state and the offset of the
 // byte at fault.
-pub enum Checked {
+pub enum Finding {
     Whole,
     Fault(u8, u8, u16),
 }
@@ -40,6 +40,14 @@ pub fn has_bit(mask: u16, j: u8) -> bool
     (mask >> j) % 2 == 1
 }
 
+// An action's partner.
+pub fn partner(j: u8) -> u8
+    requires action { ⌜ j < 14 ⌝ }
+    ensures { λ r. ⌜ (r ≡ partner j) × (r < 14) ⌝ }
+{
+    if j < 7 { j + 7 } else { j - 7 }
+}
+
 // How many of the bits below j a mask has.
 fn ones_below(mask: u16, j: u8) -> usize
     requires { ⌜ j ≤ 16 ⌝ }
@@ -50,21 +58,21 @@ fn ones_below(mask: u16, j: u8) -> usize
 }
 
 // Whether bytes are a sheet, or the first of refusals 1 to 7.
-pub fn check_sheet(b: &[u8]) -> Checked
-    ensures { λ r. ⌜ r ≡ checkedOf (readSheet (now (b .entry))) ⌝ }
+pub fn check_sheet(b: &[u8]) -> Finding
+    ensures { λ r. ⌜ r ≡ findingOf (readSheet (now (b .entry))) ⌝ }
 {
     if b.len() < 6 {
-        return Checked::Fault(1, 0, 0);
+        return Finding::Fault(1, 0, 0);
     }
     if 2118 < b.len() {
-        return Checked::Fault(1, 0, 0);
+        return Finding::Fault(1, 0, 0);
     }
     let t = read_trailer(b);
     if !good_trailer(t) {
-        return Checked::Fault(2, 0, 0);
+        return Finding::Fault(2, 0, 0);
     }
     if t.index as usize + 2 * (t.count as usize) + 6 != b.len() {
-        return Checked::Fault(3, 0, 0);
+        return Finding::Fault(3, 0, 0);
     }
     check_states(b, t)
 }

@@ -11,7 +11,7 @@ use Rattle.model.specs.Lists.{any}
 use Rattle.model.specs.Contract.{state}
 use Rattle.model.specs.Sheet.{contractIn}
 use Rattle.model.specs.Test.{listed}
-use Rattle.model.proofs.Walk.{any-found, any-onward, any-ended}
+use Rattle.model.proofs.Loops.{any-found, any-onward, any-ended}
 use Rattle.cases.proofs.runs.is_ready.Statement.{statement}
 use Rattle.cases.proofs.runs.is_ready.Tie as tie
 
