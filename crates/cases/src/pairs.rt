@@ -46,7 +46,8 @@ pub fn connect_lent(
     work: &mut [table::Record],
     plan: &mut [u8],
 ) -> Outcome
-    ensures { λ r. ⌜ Gives (connectOf blank k (now (old .entry)) (now (new .entry)) (now (work .entry)) (now (plan .entry))) r (now (plan .exit)) ⌝ }
+    ensures { λ r. ⌜ Gives (connectOf blank k (now (old .entry)) (now (new .entry)) (now (work .entry)) (now (plan .entry)))
+        r (now (plan .exit)) ⌝ }
 {
     let answer = connect::connect(k, old, new, work, plan);
     let zero = count_records(work, 0);
@@ -86,7 +87,8 @@ pub fn record_before() -> table::Record
 // Lends so many records, of as many as the stored cases ask for.
 fn lend_records(k: u8, old: &[u8], new: &[u8], count: usize, plan: &mut [u8]) -> Outcome
     requires { ⌜ count ≤ 5000 ⌝ }
-    ensures { λ r. ⌜ Gives (connectOf blank k (now (old .entry)) (now (new .entry)) (replicate count before) (now (plan .entry))) r (now (plan .exit)) ⌝ }
+    ensures { λ r. ⌜ Gives (connectOf blank k (now (old .entry)) (now (new .entry)) (replicate count before) (now (plan .entry)))
+        r (now (plan .exit)) ⌝ }
 {
     let y = record_before();
     let mut work = [y; 5000];

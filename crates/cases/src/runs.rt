@@ -7,7 +7,7 @@ ghost use Rattle.model.specs.Sheet.{contractIn};
 ghost use Rattle.model.specs.Situation.{kindOf};
 ghost use Rattle.model.specs.Test.{listed};
 ghost use Rattle.model.specs.Run.{need};
-ghost use Rattle.cases.specs.Run.{At};
+ghost use Rattle.sheet.specs.Whole.{IsState};
 use crate::standstills::Standstills;
 use crate::standstills::count_standstills;
 
@@ -34,7 +34,7 @@ pub fn need_met(R: u16, S: u16, code: u8) -> bool
 
 // Whether a mask is a ready set of state q.
 fn is_ready(b: &[u8], q: u8, mask: u16) -> bool
-    requires { ⌜ At (now b) q ⌝ }
+    requires { ⌜ IsState (now b) q ⌝ }
     ensures { λ r. ⌜ r ≡ listed (state (contractIn (now (b .entry))) q .ready) mask ⌝ }
 {
     let count = sheet::ready_count(b, q);
@@ -50,8 +50,8 @@ fn is_ready(b: &[u8], q: u8, mask: u16) -> bool
 
 // The state that state q goes on to by action j; q itself, if it does not offer the action.
 fn gone_on(b: &[u8], q: u8, j: u8) -> u8
-    requires { ⌜ At (now b) q × (j < 14) ⌝ }
-    ensures { λ r. ⌜ At (now (b .entry)) r ⌝ }
+    requires { ⌜ IsState (now b) q × (j < 14) ⌝ }
+    ensures { λ r. ⌜ IsState (now (b .entry)) r ⌝ }
 {
     if sheet::offers_action(b, q, j) {
         return sheet::successor(b, q, j);
@@ -70,8 +70,8 @@ fn one_more(a: u16) -> u16 {
 
 // The run after a move with a code, by which the plan goes to a state.
 fn moved(client: &[u8], service: &[u8], run: Run, code: u8, to: u16) -> Run
-    requires { ⌜ At (now client) (run .client) × At (now service) (run .service) ⌝ }
-    ensures { λ r. ⌜ At (now (client .entry)) (r .client) × At (now (service .entry)) (r .service) ⌝ }
+    requires { ⌜ IsState (now client) (run .client) × IsState (now service) (run .service) ⌝ }
+    ensures { λ r. ⌜ IsState (now (client .entry)) (r .client) × IsState (now (service .entry)) (r .service) ⌝ }
 {
     match code {
         0..=13 => Run {
@@ -110,8 +110,8 @@ fn print_attempt(made: bool, stepped: plan::Stepped) {
 
 // The run after an attempt, whose line is printed.
 fn attempted(client: &[u8], service: &[u8], plan: &[u8], run: Run, R: u16, S: u16, code: u8) -> Run
-    requires { ⌜ At (now client) (run .client) × At (now service) (run .service) ⌝ }
-    ensures { λ r. ⌜ At (now (client .entry)) (r .client) × At (now (service .entry)) (r .service) ⌝ }
+    requires { ⌜ IsState (now client) (run .client) × IsState (now service) (run .service) ⌝ }
+    ensures { λ r. ⌜ IsState (now (client .entry)) (r .client) × IsState (now (service .entry)) (r .service) ⌝ }
 {
     let stepped = plan::step(plan, run.plan, code);
     let chosen = is_ready(client, run.client, R) && is_ready(service, run.service, S);
@@ -125,8 +125,8 @@ fn attempted(client: &[u8], service: &[u8], plan: &[u8], run: Run, R: u16, S: u1
 
 // The run after a list of attempts, whose lines are printed.
 fn followed(client: &[u8], service: &[u8], plan: &[u8], attempts: &[u8], start: Run) -> Run
-    requires { ⌜ At (now client) (start .client) × At (now service) (start .service) ⌝ }
-    ensures { λ r. ⌜ At (now (client .entry)) (r .client) × At (now (service .entry)) (r .service) ⌝ }
+    requires { ⌜ IsState (now client) (start .client) × IsState (now service) (start .service) ⌝ }
+    ensures { λ r. ⌜ IsState (now (client .entry)) (r .client) × IsState (now (service .entry)) (r .service) ⌝ }
 {
     let mut run = start;
     let mut at: usize = 0;
@@ -150,7 +150,7 @@ fn print_end(run: Run, stuck: Standstills) {
 
 // Prints the lines of a run from the start on.
 fn follow_sheets(client: &[u8], service: &[u8], plan: &[u8], attempts: &[u8])
-    requires { ⌜ At (now client) 0 × At (now service) 0 ⌝ }
+    requires { ⌜ IsState (now client) 0 × IsState (now service) 0 ⌝ }
 {
     let start = Run {
         client: 0,

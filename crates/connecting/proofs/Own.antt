@@ -7,12 +7,14 @@ use lib.ListN.{replicate}
 use Rattle.model.specs.Connect.{Connected, connectOf}
 use Rattle.table.specs.declared.Record.{Record}
 use Rattle.table.specs.Records.{blank}
-use Rattle.connecting.specs.Own.{ownOf}
+use Rattle.connect.specs.Answers.{answerOf}
+use Rattle.connect.specs.declared.Answer.{Answer}
+use Rattle.connecting.specs.Own.{ownOf, Tells}
 
-pub own-answered : (k : ℕ) (old new plan : List ℕ) (z : Record) (table : List Record) (left : Connected Record) → z ≡ blank → table ≡ replicate 1024 z → left ≡ connectOf blank k old new table plan
-    → (left .answer ≡ ownOf k old new plan .answer) × (left .plan ≡ ownOf k old new plan .plan)
+pub own-tells : (k : ℕ) (old new plan : List ℕ) (zero : Record) (table left : List Record) (r : Answer) (written : List ℕ) → zero ≡ blank
+    → table ≡ replicate 1024 zero → record { answer = answerOf r; plan = written; work = left } ≡ connectOf blank k old new table plan
+    → Tells (ownOf k old new plan) r written
 unfolding ownOf
-own-answered k old new plan z table left zero made e =
-    let same : left ≡ connectOf blank k old new (replicate 1024 blank) plan =
-    e ∙ ap (λ (t : List Record). connectOf blank k old new t plan) (made ∙ ap (λ (x : Record). replicate 1024 x) zero) in
-    (ap (λ (c : Connected Record). c .answer) same, ap (λ (c : Connected Record). c .plan) same)
+own-tells k old new plan zero table left r written is-zero made e =
+    let same = e ∙ ap (λ (t : List Record). connectOf blank k old new t plan) (made ∙ ap (λ (x : Record). replicate 1024 x) is-zero) in
+    record { answered = ap (λ (c : Connected Record). c .answer) same; written = ap (λ (c : Connected Record). c .plan) same }

@@ -1,10 +1,8 @@
 // The connecting program: reads k, the first sheet behind its length and the second sheet, and prints the answer, the counts and the plan's
 // moves. Document 01, "Cases".
-ghost use mathlib.Core.Path.{_≡_};
 ghost use Prim.Native.Nat.{_+_, _*_, _≤_};
 ghost use lib.ListN.{length};
-ghost use Rattle.connect.specs.Answers.{answerOf};
-ghost use Rattle.connecting.specs.Own.{ownOf};
+ghost use Rattle.connecting.specs.Own.{ownOf, Tells};
 
 fn print_answer(number: u8, sheet: u8, state: u8) {
     io::write_all(1, b"answer ");
@@ -56,7 +54,7 @@ fn print_rows(plan: &[u8], states: u16) {
 
 // Connects two sheets with 1,024 lent records.
 fn connect_own(k: u8, old: &[u8], new: &[u8], plan: &mut [u8]) -> connect::Answer
-    ensures { λ r. ⌜ (answerOf r ≡ ownOf k (now (old .entry)) (now (new .entry)) (now (plan .entry)) .answer) × (now (plan .exit) ≡ ownOf k (now (old .entry)) (now (new .entry)) (now (plan .entry)) .plan) ⌝ }
+    ensures { λ r. ⌜ Tells (ownOf k (now (old .entry)) (now (new .entry)) (now (plan .entry))) r (now (plan .exit)) ⌝ }
 {
     let zero = table::zero_record();
     let mut work = [zero; 1024];

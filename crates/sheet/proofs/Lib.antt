@@ -7,3 +7,4 @@ pub mod Whole
 pub mod Answers
 pub mod RowAnswers
 pub mod SheetAnswers
+pub mod ReadySets

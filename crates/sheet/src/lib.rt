@@ -1,6 +1,5 @@
 // Contract sheets: whether bytes are a sheet, and what stands in one. Document 01, "Contracts as sheets".
 ghost use mathlib.Core.Path.{_≡_};
-ghost use mathlib.Core.Bool.{true};
 ghost use Prim.Native.Nat.{_≤_, _<_};
 ghost use lib.ListN.{length, getD};
 ghost use Rattle.model.specs.Bytes.{byte};
@@ -8,8 +7,8 @@ ghost use Rattle.model.specs.Contract.{partner, state, has, offers, after};
 ghost use Rattle.model.specs.Sheet.{readSheet, contractIn, roleIn};
 ghost use Rattle.sheet.specs.Union.{unionOf, onesBelow};
 ghost use Rattle.sheet.specs.Answers.{findingOf};
-ghost use Rattle.sheet.specs.Whole.{IsSheet, rowStart};
-ghost use Rattle.sheet.specs.Offer.{offerIn, placeIn};
+ghost use Rattle.sheet.specs.Whole.{IsSheet, IsState, rowStart};
+ghost use Rattle.sheet.specs.Offer.{offerIn, placeIn, IsOffered};
 
 mod parts;
 
@@ -95,7 +94,7 @@ pub fn role(b: &[u8]) -> u8
 
 // Where the row of state q begins.
 fn row_start(b: &[u8], q: u8) -> usize
-    requires { ⌜ IsSheet (now b) × (q < length (contractIn (now b) .states)) ⌝ }
+    requires { ⌜ IsState (now b) q ⌝ }
     ensures { λ r. ⌜ r ≡ rowStart (now (b .entry)) q ⌝ }
 {
     let index = word_at(b, b.len() - 6) as usize;
@@ -104,7 +103,7 @@ fn row_start(b: &[u8], q: u8) -> usize
 
 // How many ready sets state q has.
 pub fn ready_count(b: &[u8], q: u8) -> u8
-    requires { ⌜ IsSheet (now b) × (q < length (contractIn (now b) .states)) ⌝ }
+    requires { ⌜ IsState (now b) q ⌝ }
     ensures { λ r. ⌜ r ≡ length (state (contractIn (now (b .entry))) q .ready) ⌝ }
 {
     b[row_start(b, q)]
@@ -112,7 +111,7 @@ pub fn ready_count(b: &[u8], q: u8) -> u8
 
 // Ready set i of state q, as a mask.
 pub fn ready_set(b: &[u8], q: u8, i: u8) -> u16
-    requires { ⌜ IsSheet (now b) × (q < length (contractIn (now b) .states)) × (i < length (state (contractIn (now b)) q .ready)) ⌝ }
+    requires { ⌜ IsState (now b) q × (i < length (state (contractIn (now b)) q .ready)) ⌝ }
     ensures { λ r. ⌜ r ≡ getD (state (contractIn (now (b .entry))) q .ready) i 0 ⌝ }
 {
     word_at(b, row_start(b, q) + 1 + 2 * (i as usize))
@@ -120,7 +119,7 @@ pub fn ready_set(b: &[u8], q: u8, i: u8) -> u16
 
 // The union of the ready sets of state q, as a mask.
 fn offered(b: &[u8], q: u8) -> u16
-    requires { ⌜ IsSheet (now b) × (q < length (contractIn (now b) .states)) ⌝ }
+    requires { ⌜ IsState (now b) q ⌝ }
     ensures { λ r. ⌜ r ≡ unionOf (state (contractIn (now (b .entry))) q .ready) ⌝ }
 {
     let mut left = ready_count(b, q);
@@ -136,7 +135,7 @@ fn offered(b: &[u8], q: u8) -> u16
 
 // Whether state q offers action j.
 pub fn offers_action(b: &[u8], q: u8, j: u8) -> bool
-    requires { ⌜ IsSheet (now b) × (q < length (contractIn (now b) .states)) × (j < 14) ⌝ }
+    requires { ⌜ IsState (now b) q × (j < 14) ⌝ }
     ensures { λ r. ⌜ r ≡ offers (state (contractIn (now (b .entry))) q) j ⌝ }
 {
     has_bit(offered(b, q), j)
@@ -144,7 +143,7 @@ pub fn offers_action(b: &[u8], q: u8, j: u8) -> bool
 
 // What state q offers.
 pub fn offer_of(b: &[u8], q: u8) -> Offer
-    requires { ⌜ IsSheet (now b) × (q < length (contractIn (now b) .states)) ⌝ }
+    requires { ⌜ IsState (now b) q ⌝ }
     ensures { λ r. ⌜ r ≡ offerIn (now (b .entry)) q ⌝ }
 {
     Offer {
@@ -164,7 +163,7 @@ pub fn successor_in(b: &[u8], offer: Offer, j: u8) -> u8
 
 // The state that state q goes on to by an action j that it offers.
 pub fn successor(b: &[u8], q: u8, j: u8) -> u8
-    requires { ⌜ IsSheet (now b) × (q < length (contractIn (now b) .states)) × (j < 14) × (offers (state (contractIn (now b)) q) j ≡ true) ⌝ }
+    requires { ⌜ IsOffered (now b) q j ⌝ }
     ensures { λ r. ⌜ r ≡ after (state (contractIn (now (b .entry))) q) j ⌝ }
 {
     successor_in(b, offer_of(b, q), j)

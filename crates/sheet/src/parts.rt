@@ -168,7 +168,9 @@ pub fn check_row(b: &[u8], t: Trailer, q: u8, at: usize) -> Row
 
 // All states: each row where the index says, directly behind the one before, the last up to the index.
 pub fn check_states(b: &[u8], t: Trailer) -> Finding
-    requires { ⌜ (goodTrailer (trailerOf t) ≡ true) × (t .index + 2 * t .count + 6 ≡ length (now b)) × (length (now b) ≤ 2118) ⌝ }
+    requires whole { ⌜ (goodTrailer (trailerOf t) ≡ true)
+        × (t .index + 2 * t .count + 6 ≡ length (now b))
+        × (length (now b) ≤ 2118) ⌝ }
     ensures { λ r. ⌜ r ≡ findingOf (statesFrom (now (b .entry)) (trailerOf t) (t .count) 0 0) ⌝ }
 {
     let index = t.index as usize;
