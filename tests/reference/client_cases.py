@@ -1,22 +1,22 @@
 """Clients to be checked against services.
 
-A record is: the client sheet's length (16 bits), that sheet, and the service
+A case is: the client sheet's length (16 bits), that sheet, and the service
 sheet to the end.  Its line is: number, sheet, state, and 1 for yes or 0.
 """
 
 from .chance import Chance
 from .compliance import check_client
+from .framing import Framed, measured
 from .pair_cases import small_shape
 from .random_contracts import mirrored, random_contract, resembling
-from .records import Record, measured
 from .sheet_random import careless_sheet, changed
 from .sheets import CLIENT, SERVICE, write_sheet
 
 SEED = 20100904
 
 
-def record(label, client, service):
-    return Record(label, measured(client) + service)
+def framed(label, client, service):
+    return Framed(label, measured(client) + service)
 
 
 def verdict(data):
@@ -52,17 +52,17 @@ def small_sheets(chance):
 def cases():
     chance = Chance(SEED)
     for i in range(700):
-        yield record(f"system {i}", *small_sheets(chance))
+        yield framed(f"system {i}", *small_sheets(chance))
     for i in range(80):
         client, service = small_sheets(chance)
-        yield record(f"client changed {i}", changed(chance, client), service)
-        yield record(f"service changed {i}", client, changed(chance, service))
+        yield framed(f"client changed {i}", changed(chance, client), service)
+        yield framed(f"service changed {i}", client, changed(chance, service))
     for i in range(60):
-        yield record(f"careless sheets {i}", careless_sheet(chance), careless_sheet(chance))
+        yield framed(f"careless sheets {i}", careless_sheet(chance), careless_sheet(chance))
     for i in range(20):
         client, service = small_sheets(chance)
-        yield record(f"service first {i}", service, client)
-        yield record(f"two clients {i}", client, client)
-        yield record(f"other names {i}", client, small_sheets(chance)[1])
-        yield record(f"client cut off {i}", client[: chance.below(6)], service)
-        yield record(f"service cut off {i}", client, service[: chance.below(6)])
+        yield framed(f"service first {i}", service, client)
+        yield framed(f"two clients {i}", client, client)
+        yield framed(f"other names {i}", client, small_sheets(chance)[1])
+        yield framed(f"client cut off {i}", client[: chance.below(6)], service)
+        yield framed(f"service cut off {i}", client, service[: chance.below(6)])

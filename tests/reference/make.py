@@ -15,9 +15,9 @@ from collections import Counter
 from pathlib import Path
 
 from . import client_cases, pair_cases, run_cases, sheet_cases, step_cases
+from .framing import packed
 from .program import printed
 from .program_inputs import stored_inputs
-from .records import packed
 
 KINDS = {
     "sheets": sheet_cases,
@@ -39,9 +39,9 @@ STORED = {
 
 def files(kind):
     """What a kind's two files hold."""
-    records = list(KINDS[kind].cases())
-    lines = "".join(KINDS[kind].expected(record.data) for record in records)
-    return {"stdin": packed(records), "stdout": lines.encode()}
+    cases = list(KINDS[kind].cases())
+    lines = "".join(KINDS[kind].expected(case.data) for case in cases)
+    return {"stdin": packed(cases), "stdout": lines.encode()}
 
 
 def stored():
@@ -68,16 +68,16 @@ def differing(folder, contents):
 
 
 def table(kind):
-    groups = Counter(KINDS[kind].group(record.data) for record in KINDS[kind].cases())
+    groups = Counter(KINDS[kind].group(case.data) for case in KINDS[kind].cases())
     for group in sorted(groups):
         print(f"{group}: {groups[group]}")
     print(f"all: {sum(groups.values())}")
 
 
 def show(kind, number):
-    for i, record in enumerate(KINDS[kind].cases()):
+    for i, case in enumerate(KINDS[kind].cases()):
         if i == number:
-            print(record.label, record.data.hex(" "), KINDS[kind].expected(record.data), sep="\n", end="")
+            print(case.label, case.data.hex(" "), KINDS[kind].expected(case.data), sep="\n", end="")
 
 
 def main(arguments):

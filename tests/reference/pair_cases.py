@@ -1,6 +1,6 @@
 """Pairs to be connected.
 
-A record is: number of lent records (16 bits), lent plan bytes (16 bits), then
+A case is: number of lent records (16 bits), lent plan bytes (16 bits), then
 the connecting program's input: k (one byte), the first sheet's length (16
 bits), that sheet, and the second to the end.  Before the call every byte of
 the lent plan is EE hex and no record of the work table is zero.
@@ -13,9 +13,9 @@ records are zero after it, and how many are as they were.
 from .cases import CASES
 from .chance import Chance
 from .connecting import ZERO_RECORD, connect
+from .framing import Framed, digest, measured, number_bytes
 from .moves import Situation
 from .random_contracts import Shape, random_contract, resembling
-from .records import Record, digest, measured, number_bytes
 from .sheet_random import careless_sheet, changed
 from .sheets import CLIENT, SERVICE, Contract, state, write_sheet
 
@@ -23,17 +23,17 @@ SEED = 20100902
 FILLING = 0xEE
 MARKED = Situation((1,) * 14, 1, 1)
 
-#: What most records lend: more situations than most of the pairs have.
+#: What most cases lend: more situations than most of the pairs have.
 RECORDS, ROOM = 300, 20000
 
 
-def record(label, first, second, k, records=RECORDS, room=ROOM):
+def framed(label, first, second, k, records=RECORDS, room=ROOM):
     data = number_bytes(records) + number_bytes(room) + bytes([k]) + measured(first) + second
-    return Record(label, data)
+    return Framed(label, data)
 
 
 def called(data):
-    """The call that a record describes."""
+    """The call that a case describes."""
     records, room = (int.from_bytes(data[at : at + 2], "little") for at in (0, 2))
     behind = 7 + int.from_bytes(data[5:7], "little")
     return connect(data[7:behind], data[behind:], data[4], bytes([FILLING]) * room, [MARKED] * records)
@@ -74,7 +74,7 @@ def named_cases():
     for case in CASES:
         first, second = (write_sheet(contract) for contract in case.contracts())
         for k in range(5):
-            yield record(f"{case.name}, k {k}", first, second, k)
+            yield framed(f"{case.name}, k {k}", first, second, k)
 
 
 def limits(chance):
@@ -89,9 +89,9 @@ def limits(chance):
         found += 1
         situations, length = answer.situations, answer.plan_length
         for records in (situations, situations - 1, 1, 0):
-            yield record(f"{records} records for {situations}", first, second, k, records)
+            yield framed(f"{records} records for {situations}", first, second, k, records)
         for room in sorted({length, max(length - 1, 0), 0}):
-            yield record(f"{room} bytes for {length}", first, second, k, situations, room)
+            yield framed(f"{room} bytes for {length}", first, second, k, situations, room)
 
 
 def many_situations():
@@ -100,30 +100,30 @@ def many_situations():
         every = [*range(7, 7 + n), *range(n)]
         loop = state([sum(1 << action for action in every)], [0] * 2 * n)
         sheet = write_sheet(Contract(n, SERVICE, (loop,)))
-        yield record(f"all buffers, n {n}, k {k}", sheet, sheet, k, records, 0)
+        yield framed(f"all buffers, n {n}, k {k}", sheet, sheet, k, records, 0)
 
 
 def refused(chance):
     """Refusals 1 to 10, alone and one behind another."""
     for i in range(120):
         first, second = small_sheets(chance)
-        yield record(f"first sheet changed {i}", changed(chance, first), second, chance.below(5))
-        yield record(f"second sheet changed {i}", first, changed(chance, second), chance.below(5))
+        yield framed(f"first sheet changed {i}", changed(chance, first), second, chance.below(5))
+        yield framed(f"second sheet changed {i}", first, changed(chance, second), chance.below(5))
     for i in range(60):
         first, second = careless_sheet(chance), careless_sheet(chance)
-        yield record(f"two careless sheets {i}", first, second, chance.below(6))
+        yield framed(f"two careless sheets {i}", first, second, chance.below(6))
     for i in range(60):
         sheets = []
         for _ in range(2):
             shape = small_shape(chance, chance.pick([2, 2, 3]))
             sheets.append(write_sheet(random_contract(chance, shape, chance.pick([SERVICE, SERVICE, CLIENT]))))
-        yield record(f"roles and names {i}", *sheets, chance.pick([0, 1, 4]))
+        yield framed(f"roles and names {i}", *sheets, chance.pick([0, 1, 4]))
     for k in (4, 5, 128, 255):
-        yield record(f"k {k}", *small_sheets(chance), k)
+        yield framed(f"k {k}", *small_sheets(chance), k)
     for i in range(12):
         first, second = small_sheets(chance)
-        yield record(f"second sheet empty {i}", first, b"", 0)
-        yield record(f"first sheet empty {i}", b"", second, 0)
+        yield framed(f"second sheet empty {i}", first, b"", 0)
+        yield framed(f"first sheet empty {i}", b"", second, 0)
 
 
 def kind_of(answer):
@@ -148,9 +148,9 @@ def decided(chance):
             kind = kind_of(connect(first, second, k, bytes(ROOM), [MARKED] * RECORDS).answer)
             if left.get(kind, 0) > 0:
                 left[kind] -= 1
-                yield record(f"{kind}, k {k}", first, second, k)
+                yield framed(f"{kind}, k {k}", first, second, k)
         for i in range(50):
-            yield record(f"pair {i}, k {k}", *small_sheets(chance), k)
+            yield framed(f"pair {i}, k {k}", *small_sheets(chance), k)
 
 
 def cases():

@@ -3,7 +3,7 @@ reads it."""
 
 from .actions import mask_of
 from .cases import M1_NEW, M1_OLD, A, B
-from .records import measured
+from .framing import measured
 from .sheets import SERVICE, Contract, state, write_sheet
 
 

@@ -1,6 +1,6 @@
 """Runs to be followed.
 
-A record is: the client sheet, the new sheet and the plan, each behind its
+A case is: the client sheet, the new sheet and the plan, each behind its
 length (16 bits), then the attempts to the end, five bytes each: R (16 bits),
 S (16 bits), code.
 
@@ -14,11 +14,11 @@ from .actions import SUCCESS
 from .chance import Chance
 from .compliance import complies
 from .connecting import connect
+from .framing import Framed, measured, number_bytes
 from .moves import CODES
 from .pair_cases import MARKED, RECORDS, ROOM, small_shape
 from .plans import read_plan
 from .random_contracts import mirrored, random_contract, resembling
-from .records import Record, measured, number_bytes
 from .runs import Attempt, run
 from .sheets import CLIENT, SERVICE, read_sheet, write_sheet
 
@@ -29,13 +29,13 @@ def attempt_bytes(attempt):
     return number_bytes(attempt.client_ready) + number_bytes(attempt.service_ready) + bytes([attempt.code])
 
 
-def record(label, client, service, plan, attempts):
+def framed(label, client, service, plan, attempts):
     data = measured(client) + measured(service) + measured(plan)
-    return Record(label, data + b"".join(attempt_bytes(attempt) for attempt in attempts))
+    return Framed(label, data + b"".join(attempt_bytes(attempt) for attempt in attempts))
 
 
 def parts(data):
-    """The three measured parts of a record, and its attempts."""
+    """The three measured parts of a case, and its attempts."""
     found = []
     for _ in range(3):
         behind = 2 + int.from_bytes(data[:2], "little")
@@ -113,4 +113,4 @@ def cases():
     for i in range(520):
         system = small_system(chance)
         attempts = random_attempts(chance, *system, chance.pick([0, 1, 4, 12, 25]), chance.one_in(2))
-        yield record(f"run {i}", *system, attempts)
+        yield framed(f"run {i}", *system, attempts)

@@ -1,4 +1,4 @@
-"""Sheets to be checked: a record is a sheet, its line is number, state and
+"""Sheets to be checked: a case is a sheet, its line is number, state and
 offset of its refusal, or 0 0 0 for a whole sheet."""
 
 from .chance import Chance
@@ -12,10 +12,10 @@ SEED = 20100901
 def cases():
     """Every edge, then random sheets, no sheet twice."""
     seen = set()
-    for record in (*edges(), *random_sheets(Chance(SEED))):
-        if record.data not in seen:
-            seen.add(record.data)
-            yield record
+    for case in (*edges(), *random_sheets(Chance(SEED))):
+        if case.data not in seen:
+            seen.add(case.data)
+            yield case
 
 
 def expected(data):

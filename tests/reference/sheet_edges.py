@@ -2,7 +2,7 @@
 any of them can be wrong."""
 
 from .actions import ACTIONS, SUCCESS, mask_of, name_of
-from .records import Record, number_bytes
+from .framing import Framed, number_bytes
 from .sheets import CLIENT, CLOSING, LONGEST, SERVICE, TRAILER, offered
 
 END_ROW = bytes([1, 0, 0])
@@ -50,41 +50,41 @@ def longest_sheet():
 def lengths():
     whole = loose_sheet([row([1], [1]), END_ROW], 1)
     for length in range(len(whole)):
-        yield Record(f"first {length} bytes of a sheet", whole[:length])
+        yield Framed(f"first {length} bytes of a sheet", whole[:length])
     for length in range(len(whole)):
-        yield Record(f"last {length} bytes of a sheet", whole[-length:] if length else b"")
+        yield Framed(f"last {length} bytes of a sheet", whole[-length:] if length else b"")
     for length in (0, 1, 5, 6, 7, 8):
         for byte in (0, CLOSING, 255):
-            yield Record(f"{length} times {byte}", bytes([byte]) * length)
+            yield Framed(f"{length} times {byte}", bytes([byte]) * length)
     longest = longest_sheet()
-    yield Record("2,118 bytes", longest)
-    yield Record("2,118 bytes, closing byte wrong", longest[:-1] + b"\0")
-    yield Record("2,118 bytes, last successor wrong", loose_sheet([row(WIDE, [63] * 14)] * 63 + [row(WIDE, [63] * 13 + [64])]))
-    yield Record("2,119 bytes, one in front", b"\0" + longest)
-    yield Record("2,119 bytes, one behind", longest + b"\xc5")
-    yield Record("2,119 bytes, one left over", loose_sheet([row(WIDE)] * 64, gap=b"\0"))
-    yield Record("2,119 bytes, trailer wrong", loose_sheet([row(WIDE)] * 64, gap=b"\0", closing=0))
-    yield Record("2,118 bytes, the rest left over", loose_sheet([END_ROW], gap=bytes(LONGEST - TRAILER - 2 - 3)))
-    yield Record("2,119 bytes, the rest left over", loose_sheet([END_ROW], gap=bytes(LONGEST - TRAILER - 2 - 2)))
-    yield Record("2,118 zeros", bytes(LONGEST))
-    yield Record("8,192 bytes", bytes(8192 - len(longest)) + longest)
+    yield Framed("2,118 bytes", longest)
+    yield Framed("2,118 bytes, closing byte wrong", longest[:-1] + b"\0")
+    yield Framed("2,118 bytes, last successor wrong", loose_sheet([row(WIDE, [63] * 14)] * 63 + [row(WIDE, [63] * 13 + [64])]))
+    yield Framed("2,119 bytes, one in front", b"\0" + longest)
+    yield Framed("2,119 bytes, one behind", longest + b"\xc5")
+    yield Framed("2,119 bytes, one left over", loose_sheet([row(WIDE)] * 64, gap=b"\0"))
+    yield Framed("2,119 bytes, trailer wrong", loose_sheet([row(WIDE)] * 64, gap=b"\0", closing=0))
+    yield Framed("2,118 bytes, the rest left over", loose_sheet([END_ROW], gap=bytes(LONGEST - TRAILER - 2 - 3)))
+    yield Framed("2,119 bytes, the rest left over", loose_sheet([END_ROW], gap=bytes(LONGEST - TRAILER - 2 - 2)))
+    yield Framed("2,118 zeros", bytes(LONGEST))
+    yield Framed("8,192 bytes", bytes(8192 - len(longest)) + longest)
 
 
 def trailers():
     for count in (1, 2, 63, 64, 65, 66, 127, 128, 129, 255):
-        yield Record(f"{count} states", loose_sheet([END_ROW] * count))
+        yield Framed(f"{count} states", loose_sheet([END_ROW] * count))
     for count in (0, 65, 255):
-        yield Record(f"{count} states by the trailer alone", loose_sheet([END_ROW], count=count))
-    yield Record("no states, nothing else", loose_sheet([]))
-    yield Record("no states, a row", loose_sheet([], gap=END_ROW))
+        yield Framed(f"{count} states by the trailer alone", loose_sheet([END_ROW], count=count))
+    yield Framed("no states, nothing else", loose_sheet([]))
+    yield Framed("no states, a row", loose_sheet([], gap=END_ROW))
     for n in (*range(10), 127, 128, 255):
         for role in (0, 1, 2, 3, 128, 255):
-            yield Record(f"n {n}, role {role}", loose_sheet([END_ROW], n, role))
+            yield Framed(f"n {n}, role {role}", loose_sheet([END_ROW], n, role))
     for closing in (0, 0x45, 0xC1, 0xC4, 0xC6, 0xC7, 0xD5, 0xFF):
         for role in (SERVICE, CLIENT):
-            yield Record(f"closing byte {closing}", loose_sheet([END_ROW], 7, role, closing=closing))
-    yield Record("trailer and index wrong", loose_sheet([END_ROW], 8, index=9))
-    yield Record("trailer, index and row wrong", loose_sheet([b"\0"], 8, index=9))
+            yield Framed(f"closing byte {closing}", loose_sheet([END_ROW], 7, role, closing=closing))
+    yield Framed("trailer and index wrong", loose_sheet([END_ROW], 8, index=9))
+    yield Framed("trailer, index and row wrong", loose_sheet([b"\0"], 8, index=9))
 
 
 def indexes():
@@ -92,14 +92,14 @@ def indexes():
         rows = [END_ROW] * states
         true = 3 * states
         for index in (0, true - 1, true + 1, true ^ 256, true ^ 0x8000, true + 2 * states, 65535):
-            yield Record(f"{states} states, index offset {index}", loose_sheet(rows, index=index))
+            yield Framed(f"{states} states, index offset {index}", loose_sheet(rows, index=index))
     for count, lengths_ in ((1, (6, 7)), (2, (6, 7, 8, 9)), (64, (6, 7, 8, 69, 70, 132, 133))):
         for length in lengths_:
             index = (length - 2 * count - TRAILER) % 65536
             trailer = number_bytes(index) + bytes([count, 7, 0, CLOSING])
             front = bytes(length - TRAILER)
-            yield Record(f"index offset {index} wraps to length {length}", front + trailer)
-    yield Record("index offset and row wrong", loose_sheet([b"\0"], index=2))
+            yield Framed(f"index offset {index} wraps to length {length}", front + trailer)
+    yield Framed("index offset and row wrong", loose_sheet([b"\0"], index=2))
 
 
 def entries():
@@ -108,17 +108,17 @@ def entries():
         end = 3 * states
         for entry in sorted({true + 1, true + 3, true ^ 256, true ^ 0x8000, max(true - 1, 1), max(true - 3, 2), end, end + 1, 65535}):
             label = f"{states} states, entry {at} is {entry}"
-            yield Record(label, loose_sheet(rows, entries={at: entry}))
+            yield Framed(label, loose_sheet(rows, entries={at: entry}))
         if at > 0:
-            yield Record(f"{states} states, entry {at} is the start", loose_sheet(rows, entries={at: 0}))
+            yield Framed(f"{states} states, entry {at} is the start", loose_sheet(rows, entries={at: 0}))
         shifted = [b"\0" + END_ROW if state == at else END_ROW for state in range(states)]
         named = {state: 3 * state + (state >= at) for state in range(states)}
-        yield Record(f"{states} states, gap before row {at}", loose_sheet(shifted, entries=named))
-    yield Record("two states with one row", loose_sheet([END_ROW, b""], entries={1: 0}))
-    yield Record("rows in the other order", loose_sheet([END_ROW, END_ROW], entries={0: 3, 1: 0}))
+        yield Framed(f"{states} states, gap before row {at}", loose_sheet(shifted, entries=named))
+    yield Framed("two states with one row", loose_sheet([END_ROW, b""], entries={1: 0}))
+    yield Framed("rows in the other order", loose_sheet([END_ROW, END_ROW], entries={0: 3, 1: 0}))
     rows = [row(WIDE)] * 20
     for at, entry in ((8, 8 * 31 ^ 256), (9, 9 * 31 ^ 256), (17, 17 * 31 ^ 512), (19, 19 * 31 & 255)):
-        yield Record(f"entry {at} right in its low byte", loose_sheet(rows, entries={at: entry}))
+        yield Framed(f"entry {at} right in its low byte", loose_sheet(rows, entries={at: entry}))
 
 
 def missing():
@@ -132,43 +132,43 @@ def missing():
             for cut in cuts:
                 rows = [END_ROW] * at + [odd[:cut]]
                 label = f"{kind} row {at} of {states} cut to {cut}"
-                yield Record(label, loose_sheet(rows, count=states))
-    yield Record("64 states, no rows", loose_sheet([], count=64))
-    yield Record("64 states, one row", loose_sheet([wide], count=64))
-    yield Record("64 states, 63 rows", loose_sheet([wide] * 63, count=64))
-    yield Record("64 wide states, a byte short", loose_sheet([wide] * 63 + [wide[:-1]]))
+                yield Framed(label, loose_sheet(rows, count=states))
+    yield Framed("64 states, no rows", loose_sheet([], count=64))
+    yield Framed("64 states, one row", loose_sheet([wide], count=64))
+    yield Framed("64 states, 63 rows", loose_sheet([wide] * 63, count=64))
+    yield Framed("64 wide states, a byte short", loose_sheet([wide] * 63 + [wide[:-1]]))
 
 
 def counts():
     for states, at in PLACES:
         for count in (0, 9, 10, 127, 128, 254, 255):
             rows = placed(states, at, row([0], count=count))
-            yield Record(f"{states} states, {count} ready sets in {at}", loose_sheet(rows))
+            yield Framed(f"{states} states, {count} ready sets in {at}", loose_sheet(rows))
     for count in range(1, 14):
         masks = [mask_of(action) for action in range(count)]
-        yield Record(f"{count} ready sets there", loose_sheet([row(masks)]))
-        yield Record(f"{count} ready sets there, in the last state", loose_sheet([END_ROW, row(masks)]))
-    yield Record("256 ready sets, count 0", loose_sheet([b"\0" + b"".join(number_bytes(i) for i in range(256))]))
+        yield Framed(f"{count} ready sets there", loose_sheet([row(masks)]))
+        yield Framed(f"{count} ready sets there, in the last state", loose_sheet([END_ROW, row(masks)]))
+    yield Framed("256 ready sets, count 0", loose_sheet([b"\0" + b"".join(number_bytes(i) for i in range(256))]))
 
 
 def orders():
-    def record(label, masks, states, at):
-        return Record(f"{label}, state {at} of {states}", loose_sheet(placed(states, at, row(masks))))
+    def framed(label, masks, states, at):
+        return Framed(f"{label}, state {at} of {states}", loose_sheet(placed(states, at, row(masks))))
 
     for states, at in PLACES:
         for place in (1, 4, 7) if states == 64 else range(1, 8):
             same = WIDE[:place] + [WIDE[place - 1]] + WIDE[place + 1 :]
             less = WIDE[:place] + [WIDE[place - 1] - 1] + WIDE[place + 1 :]
             none = WIDE[:place] + [0] + WIDE[place + 1 :]
-            yield record(f"mask {place} the same", same, states, at)
-            yield record(f"mask {place} one less", less, states, at)
-            yield record(f"mask {place} zero", none, states, at)
+            yield framed(f"mask {place} the same", same, states, at)
+            yield framed(f"mask {place} one less", less, states, at)
+            yield framed(f"mask {place} zero", none, states, at)
     for first, second in ((0, 0), (1, 0), (2, 1), (255, 256), (256, 255), (0x1FF, 0x200), (0x200, 0x1FF), (0x3FFE, 0x3FFF), (0x3FFF, 0x3FFE)):
-        yield record(f"masks {first} {second}", [first, second], 1, 0)
+        yield framed(f"masks {first} {second}", [first, second], 1, 0)
     for count in range(2, 9):
         falling = [mask_of(action) for action in range(count)][::-1]
-        yield record(f"{count} masks falling", falling, 1, 0)
-    yield record("mask above the first, not the one before", [1, 4, 2], 1, 0)
+        yield framed(f"{count} masks falling", falling, 1, 0)
+    yield framed("mask above the first, not the one before", [1, 4, 2], 1, 0)
 
 
 def bits():
@@ -176,29 +176,29 @@ def bits():
         for role in (SERVICE, CLIENT):
             for bit in range(16):
                 label = f"bit {bit}, n {n}, role {role}"
-                yield Record(label, loose_sheet([row([1 << bit])], n, role))
+                yield Framed(label, loose_sheet([row([1 << bit])], n, role))
     for states, at in PLACES:
         for place in (0, 1, 6, 7):
             for bit in (14, 15):
                 masks = list(WIDE)
                 masks[place] |= 1 << bit
                 label = f"bit {bit} in mask {place} of state {at} of {states}"
-                yield Record(label, loose_sheet(placed(states, at, row(masks))))
+                yield Framed(label, loose_sheet(placed(states, at, row(masks))))
     for role in (SERVICE, CLIENT):
         marked = [0, 1, SUCCESS, SUCCESS | 1]
-        yield Record(f"marked ready sets in role {role}", loose_sheet([END_ROW, row(marked)], 1, role))
+        yield Framed(f"marked ready sets in role {role}", loose_sheet([END_ROW, row(marked)], 1, role))
         every = [mask | SUCCESS for mask in WIDE]
-        yield Record(f"all marked in role {role}", loose_sheet([row(every)], 7, role))
-        yield Record(f"success and bit 15 in role {role}", loose_sheet([row([SUCCESS | 0x8000])], 7, role))
+        yield Framed(f"all marked in role {role}", loose_sheet([row(every)], 7, role))
+        yield Framed(f"success and bit 15 in role {role}", loose_sheet([row([SUCCESS | 0x8000])], 7, role))
     for n in range(7):
         usable = [mask_of(action) for action in ACTIONS if name_of(action) < n]
         for beyond in (n, n + 7):
             masks = sorted([*usable[:7], mask_of(beyond)])
-            yield Record(f"n {n}, action {beyond} among others", loose_sheet([row(masks)], n))
+            yield Framed(f"n {n}, action {beyond} among others", loose_sheet([row(masks)], n))
             masks = [*usable[:7], mask_of(13, beyond)]
-            yield Record(f"n {n}, action {beyond} in the last mask", loose_sheet([row(masks)], n))
+            yield Framed(f"n {n}, action {beyond} in the last mask", loose_sheet([row(masks)], n))
             masks = [mask | mask_of(beyond) for mask in usable[:8]]
-            yield Record(f"n {n}, action {beyond} in all masks", loose_sheet([row(masks or [0])], n))
+            yield Framed(f"n {n}, action {beyond} in all masks", loose_sheet([row(masks or [0])], n))
 
 
 def successors():
@@ -208,12 +208,12 @@ def successors():
                 values = [0] * 14
                 values[place] = value
                 label = f"successor {place} of state {at} of {states} is {value}"
-                yield Record(label, loose_sheet(placed(states, at, row([0x3FFF], values))))
+                yield Framed(label, loose_sheet(placed(states, at, row([0x3FFF], values))))
     for first, second in ((2, 3), (3, 2), (1, 2), (2, 1)):
-        yield Record(f"successors {first} {second} of 2", loose_sheet([row([1, 2], [first, second]), END_ROW]))
-    yield Record("a successor for the success mark", loose_sheet([row([SUCCESS], [0])], 1, CLIENT))
-    yield Record("a successor too many", loose_sheet([row([1], [0, 0])], 1))
-    yield Record("a successor for each ready set", loose_sheet([row([1, 3], [0, 0, 0])], 2))
+        yield Framed(f"successors {first} {second} of 2", loose_sheet([row([1, 2], [first, second]), END_ROW]))
+    yield Framed("a successor for the success mark", loose_sheet([row([SUCCESS], [0])], 1, CLIENT))
+    yield Framed("a successor too many", loose_sheet([row([1], [0, 0])], 1))
+    yield Framed("a successor for each ready set", loose_sheet([row([1, 3], [0, 0, 0])], 2))
 
 
 def gaps():
@@ -221,10 +221,10 @@ def gaps():
         for size in (1, 2, 3, 255, 256, 257):
             for byte in (0, 1, 255):
                 label = f"{size} times {byte} behind {states} rows"
-                yield Record(label, loose_sheet([END_ROW] * states, gap=bytes([byte]) * size))
-        yield Record(f"a row too many behind {states}", loose_sheet([END_ROW] * states, gap=END_ROW))
+                yield Framed(label, loose_sheet([END_ROW] * states, gap=bytes([byte]) * size))
+        yield Framed(f"a row too many behind {states}", loose_sheet([END_ROW] * states, gap=END_ROW))
     for odd, what in ODD_ROWS:
-        yield Record(f"{what} and a gap", loose_sheet([END_ROW, odd], 2, gap=b"\0\0\0"))
+        yield Framed(f"{what} and a gap", loose_sheet([END_ROW, odd], 2, gap=b"\0\0\0"))
 
 
 #: One fault each, over two names and at most 63 states.
@@ -244,11 +244,11 @@ def orders_of_faults():
     """Two faults in one sheet: which of them decides."""
     for first, one in ODD_ROWS:
         for second, two in ODD_ROWS:
-            yield Record(f"{one}, then {two}", loose_sheet([first, second, END_ROW], 2))
+            yield Framed(f"{one}, then {two}", loose_sheet([first, second, END_ROW], 2))
         wrong_entry = loose_sheet([END_ROW, first], 2, entries={1: 2})
-        yield Record(f"entry wrong and {one}", wrong_entry)
-        yield Record(f"{one}, then entry wrong", loose_sheet([first, END_ROW], 2, entries={1: 2}))
-        yield Record(f"{one}, then nothing", loose_sheet([first], 2, count=2))
+        yield Framed(f"entry wrong and {one}", wrong_entry)
+        yield Framed(f"{one}, then entry wrong", loose_sheet([first, END_ROW], 2, entries={1: 2}))
+        yield Framed(f"{one}, then nothing", loose_sheet([first], 2, count=2))
     in_one_mask = [
         ("falling with bit 15 before it", [0x8001, 1], 7),
         ("the same with bit 15", [0x8001, 0x8001], 7),
@@ -263,8 +263,8 @@ def orders_of_faults():
     ]
     for label, masks, n in in_one_mask:
         for role in (SERVICE, CLIENT):
-            yield Record(f"{label}, role {role}", loose_sheet([row(masks)], n, role))
-            yield Record(f"{label}, role {role}, last state", loose_sheet([END_ROW, row(masks)], n, role))
+            yield Framed(f"{label}, role {role}", loose_sheet([row(masks)], n, role))
+            yield Framed(f"{label}, role {role}, last state", loose_sheet([END_ROW, row(masks)], n, role))
     cut_short = [
         ("masks falling and missing", row([2, 1, 0])[:6], 2),
         ("bit 15 and masks missing", row([0x8000, 0x8001])[:4], 2),
@@ -275,8 +275,8 @@ def orders_of_faults():
         ("a successor too large, the next missing", row([3], [255]), 2),
     ]
     for label, odd, n in cut_short:
-        yield Record(label, loose_sheet([odd], n))
-        yield Record(f"{label}, last state", loose_sheet([END_ROW, odd], n))
+        yield Framed(label, loose_sheet([odd], n))
+        yield Framed(f"{label}, last state", loose_sheet([END_ROW, odd], n))
 
 
 def edges():

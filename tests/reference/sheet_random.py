@@ -1,8 +1,8 @@
 """Random sheets: whole ones, damaged ones, and ones written carelessly."""
 
 from .actions import MOST_NAMES
+from .framing import Framed, number_bytes
 from .random_contracts import Shape, random_contract
-from .records import Record, number_bytes
 from .sheet_edges import loose_sheet, row
 from .sheets import CLIENT, CLOSING, LONGEST, MOST_READY, MOST_STATES, SERVICE, TRAILER, offered, write_sheet
 
@@ -102,7 +102,7 @@ def too_long(chance):
 
 def many(chance, kind, number, make):
     for i in range(number):
-        yield Record(f"{kind} {i}", make(chance))
+        yield Framed(f"{kind} {i}", make(chance))
 
 
 def random_sheets(chance):

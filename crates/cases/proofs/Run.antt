@@ -5,18 +5,17 @@ use mathlib.Core.List.{List}
 use Prim.Native.Nat.{ℕ}
 use native.Mathlib.Omega.{arith}
 use Rattle.model.specs.Sheet.{readBoth}
-use Rattle.sheet.specs.Whole.{IsSheet}
+use Rattle.sheet.specs.Whole.{IsSheet, IsState}
 use Rattle.sheet.proofs.Whole.{states-some}
 use Rattle.pair.specs.Pairs.{pairOf}
 use Rattle.pair.specs.declared.Pair.{Pair}
 use Rattle.pair.specs.declared.Pair.the-variants as P
 use Rattle.pair.proofs.Pairs.{good-both, both-sheets}
-use Rattle.cases.specs.Run.{At}
 
-at-start : (b : List ℕ) → IsSheet b → At b 0
-at-start b whole = record { whole = whole; below = omega (arith, states-some b whole) }
+at-start : (b : List ℕ) → IsSheet b → IsState b 0
+at-start b whole = record { sheet = whole; state = omega (arith, states-some b whole) }
 
-pub both-at-start : (client service : List ℕ) (r : Pair) → r ≡ pairOf (readBoth 1 0 client service) → r ≡ P.Good → At client 0 × At service 0
+pub both-at-start : (client service : List ℕ) (r : Pair) → r ≡ pairOf (readBoth 1 0 client service) → r ≡ P.Good → IsState client 0 × IsState service 0
 both-at-start client service r e good =
     let sheets = both-sheets 1 0 client service _ (good-both 1 0 client service r e good) in
     (at-start client (sheets .0), at-start service (sheets .1))

@@ -1,4 +1,4 @@
-// Answers the cases that are stored as records on standard input. tests/reference makes the records and says what is to be printed for
+// Answers the cases that stand on standard input, each behind its length. tests/reference makes them and says what is to be printed for
 // each; its README has the form of every kind.
 mod clients;
 mod lent;
@@ -8,7 +8,7 @@ mod sheets;
 mod standstills;
 mod steps;
 
-// What the records hold.
+// What the cases are about.
 pub enum Kind {
     Sheets,
     Pairs,
@@ -17,28 +17,28 @@ pub enum Kind {
     Runs,
 }
 
-fn answer(kind: Kind, record: &[u8]) {
+fn answer(kind: Kind, case: &[u8]) {
     match kind {
-        Kind::Sheets => sheets::answer(record),
-        Kind::Pairs => pairs::answer(record),
-        Kind::Steps => steps::answer(record),
-        Kind::Clients => clients::answer(record),
-        Kind::Runs => runs::answer(record),
+        Kind::Sheets => sheets::answer(case),
+        Kind::Pairs => pairs::answer(case),
+        Kind::Steps => steps::answer(case),
+        Kind::Clients => clients::answer(case),
+        Kind::Runs => runs::answer(case),
     }
 }
 
-// Reads a record, prints its lines, and answers true; false where there is none, or only a part of one.
+// Reads a case, prints its lines, and answers true; false where there is none, or only a part of one.
 fn answer_next(kind: Kind, space: &mut [u8]) -> bool {
-    let record = framing::read_record(space);
-    if !record.whole {
+    let frame = framing::read_frame(space);
+    if !frame.whole {
         return false;
     }
-    let length = record.length;
+    let length = frame.length;
     answer(kind, &space[..length]);
     true
 }
 
-// Nothing says that the input ends, so the records are counted down from a number that no run uses up.
+// Nothing says that the input ends, so the cases are counted down from a number that no run uses up.
 fn answer_rest(kind: Kind, space: &mut [u8]) {
     let mut turns = u64::MAX;
     while turns > 0 && answer_next(kind, space) {
@@ -46,7 +46,7 @@ fn answer_rest(kind: Kind, space: &mut [u8]) {
     }
 }
 
-// Prints the lines of every record. The space holds any record that its length can ask for.
+// Prints the lines of every case. The space holds any case that its length can ask for.
 pub fn answer_all(kind: Kind) {
     let mut space = io::large_buffer();
     answer_rest(kind, &mut space);

@@ -1,4 +1,4 @@
-// A record is the number of lent records (16 bits), that of lent plan bytes (16 bits), and the connecting program's input: k, the first sheet
+// A case is the number of lent records (16 bits), that of lent plan bytes (16 bits), and the connecting program's input: k, the first sheet
 // behind its length, and the second. Its line: number, sheet, state; situations, plan states, rounds; plan length; digest of the lent plan;
 // lent records that are zero, and lent records that are as they were.
 ghost use mathlib.Core.Path.{_≡_};
@@ -46,7 +46,8 @@ pub fn connect_lent(
     work: &mut [table::Record],
     plan: &mut [u8],
 ) -> Outcome
-    ensures { λ r. ⌜ Gives (connectOf blank k (now (old .entry)) (now (new .entry)) (now (work .entry)) (now (plan .entry))) r (now (plan .exit)) ⌝ }
+    ensures { λ r. ⌜ Gives (connectOf blank k (now (old .entry)) (now (new .entry)) (now (work .entry)) (now (plan .entry)))
+        r (now (plan .exit)) ⌝ }
 {
     let answer = connect::connect(k, old, new, work, plan);
     let zero = count_records(work, 0);
@@ -86,7 +87,8 @@ pub fn record_before() -> table::Record
 // Lends so many records, of as many as the stored cases ask for.
 fn lend_records(k: u8, old: &[u8], new: &[u8], count: usize, plan: &mut [u8]) -> Outcome
     requires few { ⌜ count ≤ 5000 ⌝ }
-    ensures { λ r. ⌜ Gives (connectOf blank k (now (old .entry)) (now (new .entry)) (replicate count before) (now (plan .entry))) r (now (plan .exit)) ⌝ }
+    ensures { λ r. ⌜ Gives (connectOf blank k (now (old .entry)) (now (new .entry)) (replicate count before) (now (plan .entry)))
+        r (now (plan .exit)) ⌝ }
 {
     let y = record_before();
     let mut work = [y; 5000];
@@ -119,15 +121,15 @@ fn lend(k: u8, old: &[u8], new: &[u8], count: usize, room: usize)
     print_case(k, old, new, count, &mut plan[..room]);
 }
 
-pub fn answer(record: &[u8]) {
-    if record.len() < 7 {
+pub fn answer(case: &[u8]) {
+    if case.len() < 7 {
         return;
     }
-    let count = sheet::word_at(record, 0) as usize;
+    let count = little_endian::word_at(case, 0) as usize;
     if 5000 < count {
         return;
     }
-    let room = sheet::word_at(record, 2) as usize;
-    let end = framing::part_end(record, 5);
-    lend(record[4], &record[7..end], &record[end..], count, room);
+    let room = little_endian::word_at(case, 2) as usize;
+    let end = framing::part_end(case, 5);
+    lend(case[4], &case[7..end], &case[end..], count, room);
 }

@@ -1,13 +1,13 @@
-// A record is a client sheet, a service sheet and a plan, each behind its length, and attempts of five bytes: R and S (16 bits each) and a
+// A case is a client sheet, a service sheet and a plan, each behind its length, and attempts of five bytes: R and S (16 bits each) and a
 // code. Its lines: for each attempt 1 for a move or 0, and number and next state of stepping; then the state after the list.
 ghost use mathlib.Core.Path.{_≡_};
 ghost use Prim.Native.Nat.{_<_};
-ghost use Rattle.model.specs.Contract.{partner, state};
+ghost use Rattle.model.specs.Contract.{state};
 ghost use Rattle.model.specs.Sheet.{contractIn};
 ghost use Rattle.model.specs.Situation.{kindOf};
 ghost use Rattle.model.specs.Test.{listed};
 ghost use Rattle.model.specs.Run.{need};
-ghost use Rattle.cases.specs.Run.{At};
+ghost use Rattle.sheet.specs.Whole.{IsState};
 use crate::standstills::Standstills;
 use crate::standstills::count_standstills;
 
@@ -20,20 +20,13 @@ pub struct Run {
     pub longest: u16,
 }
 
-fn partner(j: u8) -> u8
-    requires { ⌜ j < 14 ⌝ }
-    ensures { λ r. ⌜ (r ≡ partner j) × (r < 14) ⌝ }
-{
-    if j < 7 { j + 7 } else { j - 7 }
-}
-
 // Whether the masks have what a code needs.
 pub fn need_met(R: u16, S: u16, code: u8) -> bool
     ensures { λ r. ⌜ r ≡ need R S (kindOf code) ⌝ }
 {
     match code {
-        0..=13 => sheet::has_bit(S, code) && sheet::has_bit(R, partner(code)),
-        16..=29 => sheet::has_bit(R, partner(code - 16)),
+        0..=13 => sheet::has_bit(S, code) && sheet::has_bit(R, sheet::partner(code)),
+        16..=29 => sheet::has_bit(R, sheet::partner(code - 16)),
         32..=45 => sheet::has_bit(S, code - 32),
         _ => false,
     }
@@ -41,7 +34,7 @@ pub fn need_met(R: u16, S: u16, code: u8) -> bool
 
 // Whether a mask is a ready set of state q.
 fn is_ready(b: &[u8], q: u8, mask: u16) -> bool
-    requires { ⌜ At (now b) q ⌝ }
+    requires { ⌜ IsState (now b) q ⌝ }
     ensures { λ r. ⌜ r ≡ listed (state (contractIn (now (b .entry))) q .ready) mask ⌝ }
 {
     let count = sheet::ready_count(b, q);
@@ -57,8 +50,8 @@ fn is_ready(b: &[u8], q: u8, mask: u16) -> bool
 
 // The state that state q goes on to by action j; q itself, if it does not offer the action.
 fn gone_on(b: &[u8], q: u8, j: u8) -> u8
-    requires { ⌜ At (now b) q × (j < 14) ⌝ }
-    ensures { λ r. ⌜ At (now (b .entry)) r ⌝ }
+    requires { ⌜ IsState (now b) q × (j < 14) ⌝ }
+    ensures { λ r. ⌜ IsState (now (b .entry)) r ⌝ }
 {
     if sheet::offers_action(b, q, j) {
         return sheet::successor(b, q, j);
@@ -77,19 +70,19 @@ fn one_more(a: u16) -> u16 {
 
 // The run after a move with a code, by which the plan goes to a state.
 fn moved(client: &[u8], service: &[u8], run: Run, code: u8, to: u16) -> Run
-    requires { ⌜ At (now client) (run .client) × At (now service) (run .service) ⌝ }
-    ensures { λ r. ⌜ At (now (client .entry)) (r .client) × At (now (service .entry)) (r .service) ⌝ }
+    requires { ⌜ IsState (now client) (run .client) × IsState (now service) (run .service) ⌝ }
+    ensures { λ r. ⌜ IsState (now (client .entry)) (r .client) × IsState (now (service .entry)) (r .service) ⌝ }
 {
     match code {
         0..=13 => Run {
-            client: gone_on(client, run.client, partner(code)),
+            client: gone_on(client, run.client, sheet::partner(code)),
             service: gone_on(service, run.service, code),
             plan: to,
             alone: 0,
             longest: run.longest,
         },
         16..=29 => Run {
-            client: gone_on(client, run.client, partner(code - 16)),
+            client: gone_on(client, run.client, sheet::partner(code - 16)),
             service: run.service,
             plan: to,
             alone: 0,
@@ -117,8 +110,8 @@ fn print_attempt(made: bool, stepped: plan::Stepped) {
 
 // The run after an attempt, whose line is printed.
 fn attempted(client: &[u8], service: &[u8], plan: &[u8], run: Run, R: u16, S: u16, code: u8) -> Run
-    requires { ⌜ At (now client) (run .client) × At (now service) (run .service) ⌝ }
-    ensures { λ r. ⌜ At (now (client .entry)) (r .client) × At (now (service .entry)) (r .service) ⌝ }
+    requires { ⌜ IsState (now client) (run .client) × IsState (now service) (run .service) ⌝ }
+    ensures { λ r. ⌜ IsState (now (client .entry)) (r .client) × IsState (now (service .entry)) (r .service) ⌝ }
 {
     let stepped = plan::step(plan, run.plan, code);
     let chosen = is_ready(client, run.client, R) && is_ready(service, run.service, S);
@@ -132,14 +125,14 @@ fn attempted(client: &[u8], service: &[u8], plan: &[u8], run: Run, R: u16, S: u1
 
 // The run after a list of attempts, whose lines are printed.
 fn followed(client: &[u8], service: &[u8], plan: &[u8], attempts: &[u8], start: Run) -> Run
-    requires { ⌜ At (now client) (start .client) × At (now service) (start .service) ⌝ }
-    ensures { λ r. ⌜ At (now (client .entry)) (r .client) × At (now (service .entry)) (r .service) ⌝ }
+    requires { ⌜ IsState (now client) (start .client) × IsState (now service) (start .service) ⌝ }
+    ensures { λ r. ⌜ IsState (now (client .entry)) (r .client) × IsState (now (service .entry)) (r .service) ⌝ }
 {
     let mut run = start;
     let mut at: usize = 0;
     while 5 <= attempts.len() - at {
-        let R = sheet::word_at(attempts, at);
-        let S = sheet::word_at(attempts, at + 2);
+        let R = little_endian::word_at(attempts, at);
+        let S = little_endian::word_at(attempts, at + 2);
         run = attempted(client, service, plan, run, R, S, attempts[at + 4]);
         at += 5;
     }
@@ -157,7 +150,7 @@ fn print_end(run: Run, stuck: Standstills) {
 
 // Prints the lines of a run from the start on.
 fn follow_sheets(client: &[u8], service: &[u8], plan: &[u8], attempts: &[u8])
-    requires { ⌜ At (now client) 0 × At (now service) 0 ⌝ }
+    requires { ⌜ IsState (now client) 0 × IsState (now service) 0 ⌝ }
 {
     let start = Run {
         client: 0,
@@ -197,10 +190,10 @@ fn follow_behind_client(client: &[u8], rest: &[u8]) {
     follow_behind_service(client, &rest[2..end], &rest[end..]);
 }
 
-pub fn answer(record: &[u8]) {
-    if record.len() < 2 {
+pub fn answer(case: &[u8]) {
+    if case.len() < 2 {
         return;
     }
-    let end = framing::part_end(record, 0);
-    follow_behind_client(&record[2..end], &record[end..]);
+    let end = framing::part_end(case, 0);
+    follow_behind_client(&case[2..end], &case[end..]);
 }

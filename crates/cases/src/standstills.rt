@@ -1,6 +1,6 @@
 // The standstills of a run: the choices under which no code can be made.
 ghost use Prim.Native.Nat.{_≤_};
-ghost use Rattle.cases.specs.Run.{At};
+ghost use Rattle.sheet.specs.Whole.{IsState};
 use crate::runs::need_met;
 
 // How many standstills there are, and how many of them lack the success mark.
@@ -23,7 +23,7 @@ fn is_standstill(plan: &[u8], state: u16, R: u16, S: u16) -> bool {
 
 // How many ready sets of the service's state q make a standstill with R.
 fn count_with(service: &[u8], q: u8, plan: &[u8], state: u16, R: u16) -> u16
-    requires { ⌜ At (now service) q ⌝ }
+    requires { ⌜ IsState (now service) q ⌝ }
     ensures { λ r. ⌜ r ≤ 255 ⌝ }
 {
     let count = sheet::ready_count(service, q);
@@ -48,7 +48,7 @@ pub fn count_standstills(
     plan: &[u8],
     state: u16,
 ) -> Standstills
-    requires { ⌜ At (now client) p × At (now service) q ⌝ }
+    requires { ⌜ IsState (now client) p × IsState (now service) q ⌝ }
 {
     let count = sheet::ready_count(client, p);
     let mut all: u16 = 0;

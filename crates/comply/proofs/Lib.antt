@@ -1,5 +1,5 @@
 pub mod Masks
 pub mod Pairs
-pub mod Listed
+pub mod PairsKnown
 pub mod Search
 pub mod Answer

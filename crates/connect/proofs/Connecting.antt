@@ -19,7 +19,7 @@ use Rattle.model.proofs.Moves.{Within, next-within}
 use Rattle.model.proofs.Sheet.{WellFormed}
 use Rattle.sheet.specs.Whole.{IsSheet}
 use Rattle.sheet.proofs.Whole.{sheet-formed}
-use Rattle.plan.proofs.Front.{front-none}
+use Rattle.little_endian.proofs.Front.{front-none}
 use Rattle.keys.proofs.Keys.{Fits}
 use Rattle.table.specs.declared.Record.{Record}
 use Rattle.table.specs.Lists.{keysOf, linksOf}

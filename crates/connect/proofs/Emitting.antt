@@ -11,8 +11,8 @@ use borrow.Author.Tests.{le-leb, lt-leb, leb-true, leb-false}
 use Rattle.model.specs.Plan.{Move, planBytes}
 use Rattle.model.specs.Sheet.{contractIn}
 use Rattle.model.specs.Connect.{counted, emitted}
-use Rattle.plan.specs.Front.{front}
-use Rattle.plan.proofs.Front.{front-none}
+use Rattle.little_endian.specs.Front.{front}
+use Rattle.little_endian.proofs.Front.{front-none}
 use Rattle.table.specs.declared.Record.{Record}
 use Rattle.numbering.specs.Table.{statesAt, rowsAt, UnnumberedTable, NumberedTable, NumberedInto}
 use Rattle.numbering.specs.Writing.{ToWrite}

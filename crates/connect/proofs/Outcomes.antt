@@ -13,7 +13,7 @@ use Rattle.model.specs.Connect as model
 use Rattle.model.specs.Connect.{Outcome, refused, counted, connected, limitOf, ranked, outcomeOf, clears, Connected, connectOf}
 use Rattle.model.proofs.Connect.{Shape, cut-off, removed, too-long, fits, shape}
 use Rattle.model.proofs.Refusals.{only-elim, both-numbers}
-use Rattle.plan.specs.Front.{front}
+use Rattle.little_endian.specs.Front.{front}
 use Rattle.pair.specs.Pairs.{pairOf}
 use Rattle.pair.specs.declared.Pair.{Pair}
 use Rattle.pair.specs.declared.Pair.the-variants as P

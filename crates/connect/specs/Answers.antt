@@ -8,7 +8,7 @@ use Rattle.model.specs.Sheet.{contractIn}
 use Rattle.model.specs.Connect as model
 use Rattle.model.specs.Connect.{Outcome, connected, limitOf, outcomeOf, clears}
 use Rattle.sheet.specs.Whole.{IsSheet}
-use Rattle.plan.specs.Front.{front}
+use Rattle.little_endian.specs.Front.{front}
 use Rattle.connect.specs.declared.Answer.{Answer}
 
 -- the model's answer that a struct holds

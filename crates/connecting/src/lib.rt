@@ -33,7 +33,7 @@ fn print_row(plan: &[u8], state: u16, first: usize, size: usize)
     let mut left = size;
     let mut at = first;
     while 0 < left {
-        print_move(state, plan[at], sheet::word_at(plan, at + 1));
+        print_move(state, plan[at], little_endian::word_at(plan, at + 1));
         at += 3;
         left -= 1;
     }

@@ -8,7 +8,7 @@ use Prim.Native.Nat.{ℕ, zero, suc, _+_, _-_, _≤_, _<_}
 use native.Mathlib.Omega.{arith}
 use native.Mathlib.Nat.{eq-or-lt-of-le}
 use lib.Dec.{ltb}
-use borrow.Author.Tests.{ltb-true}
+use borrow.Author.Tests.{ltb-true, lt-ltb, le-ltb}
 use Rattle.model.specs.Lists.{upto}
 use Rattle.model.specs.Contract.{actions, takes, partner}
 
@@ -31,6 +31,14 @@ action j h = mem-upto 14 0 j (omega arith) (omega arith)
 pub action-below : (j : ℕ) → List·Memᴰ j actions → j < 14
 unfolding actions
 action-below j m = omega (arith, upto-mem 14 0 j m)
+
+pub partner-taken : (j : ℕ) → j < 7 → partner j ≡ j + 7
+unfolding partner takes
+partner-taken j h = simp (lt-ltb j 7 h)
+
+pub partner-sent : (j : ℕ) → 7 ≤ j → partner j ≡ j - 7
+unfolding partner takes
+partner-sent j h = simp (le-ltb j 7 h)
 
 pub partner-action : (j : ℕ) → j < 14 → partner j < 14
 unfolding partner takes

@@ -30,4 +30,4 @@ pub mod Codes
 pub mod Masks
 pub mod Moves
 pub mod Ranges
-pub mod Walk
+pub mod Loops

@@ -5,6 +5,5 @@ pub mod Looking
 pub mod Numbering
 pub mod Moves
 pub mod Bytes
-pub mod Writing
 pub mod Row
 pub mod Parts

@@ -1,21 +1,14 @@
--- What a writer of a part of the plan asks for, and what it leaves behind.
+-- What a writer of a part of the plan asks for.
 -- Assumes nothing.
-use mathlib.Core.Path.{_≡_}
 use mathlib.Core.List.{List, List·Memᴰ}
 use Prim.Native.Nat.{ℕ, _≤_}
 use lib.ListN.{length}
 use Rattle.model.specs.Plan.{rowBytes}
-use Rattle.plan.specs.Front.{front}
 use Rattle.table.specs.declared.Record.{Record}
 use Rattle.table.specs.Lists.{numbersOf}
 use Rattle.table.specs.States.{SettledTable}
 use Rattle.numbering.specs.Numbered.{Numbers}
 use Rattle.numbering.specs.Table.{statesAt, rowAt, NumberedTable}
-
--- bytes were written, `size` of them: they stand at the front of what was lent, and the rest of it is untouched
-pub record Wrote (bytes : List ℕ) (size : ℕ) (out out′ : List ℕ) : Type 0 where
-  pub size-is : size ≡ length bytes
-  pub in-front : out′ ≡ front bytes out
 
 -- bytes of the plan to write: its states are numbered, and the bytes fit into what is lent
 pub record ToWrite (bytes : List ℕ) (count states : ℕ) (ys : List Record) (out : List ℕ) : Type 0 where

@@ -6,9 +6,9 @@ ghost use Prim.Native.Nat.{_+_, _-_, _*_, _≤_, _<_};
 ghost use lib.ListN.{length};
 ghost use Rattle.model.specs.Plan.{moveBytes, rowBytes, rowsBytes, indexBytes};
 ghost use Rattle.keys.specs.Links.{codeAt};
-ghost use Rattle.plan.specs.Front.{front};
+ghost use Rattle.little_endian.specs.Front.{front, Wrote};
 ghost use Rattle.numbering.specs.Table.{stateAt, rowAt, rowsAt, PlanState};
-ghost use Rattle.numbering.specs.Writing.{Wrote, ToWrite, RowToWrite};
+ghost use Rattle.numbering.specs.Writing.{ToWrite, RowToWrite};
 
 // A number of states as a place in a table.
 pub fn wide(states: u16) -> usize
@@ -82,7 +82,7 @@ pub fn write_row(work: &[table::Record], count: usize, i: usize, out: &mut [u8])
 {
     let y = table::load(work, i);
     let mut rest = table::fields::slots_of(y);
-    plan::write::put_byte(out, fields::moves_in(rest));
+    little_endian::put_byte(out, fields::moves_in(rest));
     let mut at: usize = 1;
     while rest != 0 {
         let slot = keys::lowest(rest);
@@ -121,7 +121,7 @@ pub fn write_index(work: &[table::Record], count: usize, states: u16, out: &mut 
     let mut at: usize = 0;
     let mut p: usize = 0;
     while p < last {
-        plan::write::put_dword(&mut out[at..], row);
+        little_endian::put_dword(&mut out[at..], row);
         row = row + row_length_at(work, count, states, p);
         at = at + 4;
         p = p + 1;

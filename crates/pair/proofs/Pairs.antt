@@ -10,10 +10,10 @@ use Rattle.model.specs.Sheet.{Reading, good, refusal, check, then, Fault, Sheet
 use Rattle.model.specs.Contract.{Contract}
 use Rattle.model.proofs.Sheet.{both-elim}
 use Rattle.sheet.specs.Whole.{IsSheet}
-use Rattle.sheet.specs.Answers.{checkedOf}
+use Rattle.sheet.specs.Answers.{findingOf}
 use Rattle.sheet.proofs.Answers.{fault-refusal}
-use Rattle.sheet.specs.declared.Checked.{Checked}
-use Rattle.sheet.specs.declared.Checked.the-variants as C
+use Rattle.sheet.specs.declared.Finding.{Finding}
+use Rattle.sheet.specs.declared.Finding.the-variants as F
 use Rattle.pair.specs.Pairs.{pairOf}
 use Rattle.pair.specs.declared.Pair.{Pair}
 use Rattle.pair.specs.declared.Pair.the-variants as P
@@ -37,12 +37,12 @@ module _ (role₁ role₂ : ℕ) (b₁ b₂ : List ℕ) where
   abbrev read : Pair
   read = pairOf (readBoth role₁ role₂ b₁ b₂)
 
-  pub first-refused : (number state offset : ℕ) (r : Checked) → r ≡ checkedOf (readSheet b₁) → r ≡ C.Fault number state offset
+  pub first-refused : (number state offset : ℕ) (r : Finding) → r ≡ findingOf (readSheet b₁) → r ≡ F.Fault number state offset
       → P.Refused number 1 state offset ≡ read
   unfolding readBoth inPlace then pairOf
   first-refused number state offset r e w = rw (fault-refusal (readSheet b₁) number state offset (sym e ∙ w)) refl
 
-  pub second-refused : IsSheet b₁ → (number state offset : ℕ) (r : Checked) → r ≡ checkedOf (readSheet b₂) → r ≡ C.Fault number state offset
+  pub second-refused : IsSheet b₁ → (number state offset : ℕ) (r : Finding) → r ≡ findingOf (readSheet b₂) → r ≡ F.Fault number state offset
       → P.Refused number 2 state offset ≡ read
   unfolding readBoth inPlace then pairOf
   second-refused s₁ number state offset r e w = rw (s₁ .1, fault-refusal (readSheet b₂) number state offset (sym e ∙ w)) refl

@@ -3,7 +3,7 @@ ghost use mathlib.Core.Path.{_≡_};
 ghost use Rattle.model.specs.Sheet.{readBoth};
 ghost use Rattle.sheet.specs.Whole.{IsSheet};
 ghost use Rattle.pair.specs.Pairs.{pairOf};
-use sheet::Checked;
+use sheet::Finding;
 
 // Two sheets that can be used together, or a refusal: number, sheet, state, offset of the byte at fault.
 pub enum Pair {
@@ -16,8 +16,8 @@ pub fn check_pair(role1: u8, role2: u8, one: &[u8], two: &[u8]) -> Pair
     ensures { λ r. ⌜ r ≡ pairOf (readBoth role1 role2 (now (one .entry)) (now (two .entry))) ⌝ }
 {
     match sheet::check_sheet(one) {
-        Checked::Fault(number, state, offset) => Pair::Refused(number, 1, state, offset),
-        Checked::Whole => check_second(role1, role2, one, two),
+        Finding::Fault(number, state, offset) => Pair::Refused(number, 1, state, offset),
+        Finding::Whole => check_second(role1, role2, one, two),
     }
 }
 
@@ -27,8 +27,8 @@ fn check_second(role1: u8, role2: u8, one: &[u8], two: &[u8]) -> Pair
     ensures { λ r. ⌜ r ≡ pairOf (readBoth role1 role2 (now (one .entry)) (now (two .entry))) ⌝ }
 {
     match sheet::check_sheet(two) {
-        Checked::Fault(number, state, offset) => Pair::Refused(number, 2, state, offset),
-        Checked::Whole => check_places(role1, role2, one, two),
+        Finding::Fault(number, state, offset) => Pair::Refused(number, 2, state, offset),
+        Finding::Whole => check_places(role1, role2, one, two),
     }
 }
 

@@ -4,6 +4,5 @@ pub mod Rows
 pub mod Places
 pub mod Trailer
 pub mod Stands
-pub mod Front
 pub mod Written
 pub mod calls

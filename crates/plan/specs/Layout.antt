@@ -28,6 +28,6 @@ goodPlace b index count n p i =
     eqb (dword b (index + 4 * p)) i && leb (i + 1 + 3 * byte b i) index && goodRow n count (readMoves b (i + 1) (byte b i))
 
 -- "16-bit state count (1 to 4,096), n (0 to 7), k (0 to 3)"
-unfoldable pub goodTrailer : (count n k : ℕ) → Bool
-goodTrailer count n k =
+unfoldable pub figuresInRange : (count n k : ℕ) → Bool
+figuresInRange count n k =
     leb 1 count && (leb count 4096 && (leb n 7 && leb k 3))

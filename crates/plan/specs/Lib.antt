@@ -1,3 +1,2 @@
 pub mod Layout
 pub mod Step
-pub mod Front

@@ -7,6 +7,8 @@ ghost use Prim.Native.Nat.{_+_, _*_, _≤_};
 ghost use lib.ListN.{length};
 ghost use Rattle.model.specs.Plan.{held, readMoves, stepRow, stepOf};
 ghost use Rattle.plan.specs.Step.{steppedOf};
+use little_endian::dword_at;
+use little_endian::word_at;
 
 // The answer of a step: number 0 and the next state, or a refusal's number and 0.
 #[repr(C)]
@@ -24,7 +26,7 @@ fn step_row(plan: &[u8], first: usize, size: usize, code: u8) -> Stepped
     let mut at = first;
     while 0 < left {
         if plan[at] == code {
-            let state = read::word_at(plan, at + 1);
+            let state = word_at(plan, at + 1);
             return Stepped {
                 number: 0,
                 state: state,
@@ -46,14 +48,14 @@ pub fn step(plan: &[u8], state: u16, code: u8) -> Stepped
 {
     if read::is_plan(plan) {
         let end = plan.len();
-        if read::word_at(plan, end - 4) <= state {
+        if word_at(plan, end - 4) <= state {
             return Stepped {
                 number: 15,
                 state: 0,
             };
         }
-        let index = read::dword_at(plan, end - 8) as usize;
-        let row = read::dword_at(plan, index + 4 * (state as usize)) as usize;
+        let index = dword_at(plan, end - 8) as usize;
+        let row = dword_at(plan, index + 4 * (state as usize)) as usize;
         let size = plan[row] as usize;
         return step_row(plan, row + 1, size, code);
     }

@@ -3,27 +3,12 @@ ghost use mathlib.Core.Path.{_≡_};
 ghost use Prim.Native.Nat.{_+_, _*_, _≤_};
 ghost use lib.Dec.{ltb};
 ghost use lib.ListN.{length};
-ghost use Rattle.model.specs.Bytes.{word, dword};
 ghost use Rattle.model.specs.Contract.{name};
 ghost use Rattle.model.specs.Situation.{kindOf};
 ghost use Rattle.model.specs.Plan.{namedBelow, goodRow, readMoves, readRows, readPlan};
-ghost use Rattle.plan.specs.Layout.{isSome, moveAt, goodMove, goodPlace, goodTrailer};
-
-// The 16-bit number at a place.
-pub fn word_at(plan: &[u8], i: usize) -> u16
-    requires { ⌜ i + 2 ≤ length (now plan) ⌝ }
-    ensures { λ r. ⌜ r ≡ word (now (plan .entry)) i ⌝ }
-{
-    plan[i] as u16 + 256 * (plan[i + 1] as u16)
-}
-
-// The 32-bit number at a place.
-pub fn dword_at(plan: &[u8], i: usize) -> u32
-    requires { ⌜ i + 4 ≤ length (now plan) ⌝ }
-    ensures { λ r. ⌜ r ≡ dword (now (plan .entry)) i ⌝ }
-{
-    word_at(plan, i) as u32 + 65536 * (word_at(plan, i + 2) as u32)
-}
+ghost use Rattle.plan.specs.Layout.{isSome, moveAt, goodMove, goodPlace, figuresInRange};
+use little_endian::dword_at;
+use little_endian::word_at;
 
 // Whether the name of an action is below n.
 pub fn named(j: u8, n: u8) -> bool
@@ -119,8 +104,8 @@ pub fn good_rows(plan: &[u8], index: usize, count: u16, n: u8) -> bool
 }
 
 // Whether a plan can have count states, n names and the rank k.
-pub fn good_trailer(count: u16, n: u8, k: u8) -> bool
-    ensures { λ r. ⌜ r ≡ goodTrailer count n k ⌝ }
+pub fn figures_in_range(count: u16, n: u8, k: u8) -> bool
+    ensures { λ r. ⌜ r ≡ figuresInRange count n k ⌝ }
 {
     if count < 1 {
         return false;
@@ -145,7 +130,7 @@ pub fn is_plan(plan: &[u8]) -> bool
     let index = dword_at(plan, end - 8) as usize;
     let count = word_at(plan, end - 4);
     let n = plan[end - 2];
-    if good_trailer(count, n, plan[end - 1]) {
+    if figures_in_range(count, n, plan[end - 1]) {
         if index + 4 * (count as usize) + 8 == end {
             return good_rows(plan, index, count, n);
         }

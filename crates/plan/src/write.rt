@@ -6,33 +6,10 @@ ghost use Prim.Native.Nat.{_≤_};
 ghost use lib.ListN.{length};
 ghost use Rattle.model.specs.Bytes.{le16, le32};
 ghost use Rattle.model.specs.Plan.{moveBytes};
-ghost use Rattle.plan.specs.Front.{front};
-
-// A byte: a row's count of moves, n, k.
-pub fn put_byte(out: &mut [u8], x: u8)
-    requires { ⌜ 1 ≤ length (now out) ⌝ }
-    ensures { λ _. ⌜ now (out .exit) ≡ front (x ∷ []) (now (out .entry)) ⌝ }
-{
-    out[0] = x;
-}
-
-// A 16-bit number.
-fn put_word(out: &mut [u8], x: u16)
-    requires { ⌜ 2 ≤ length (now out) ⌝ }
-    ensures { λ _. ⌜ now (out .exit) ≡ front (le16 x) (now (out .entry)) ⌝ }
-{
-    out[0] = (x % 256) as u8;
-    out[1] = (x / 256 % 256) as u8;
-}
-
-// A 32-bit number: an entry of the index.
-pub fn put_dword(out: &mut [u8], x: u32)
-    requires { ⌜ 4 ≤ length (now out) ⌝ }
-    ensures { λ _. ⌜ now (out .exit) ≡ front (le32 x) (now (out .entry)) ⌝ }
-{
-    put_word(out, (x % 65536) as u16);
-    put_word(&mut out[2..], (x / 65536) as u16);
-}
+ghost use Rattle.little_endian.specs.Front.{front};
+use little_endian::put_byte;
+use little_endian::put_dword;
+use little_endian::put_word;
 
 // A move: its code and its next state.
 pub fn put_move(out: &mut [u8], code: u8, to: u16)

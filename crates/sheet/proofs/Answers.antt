@@ -7,14 +7,14 @@ use native.Mathlib.Omega.{arith}
 use lib.Bits.{bitOr}
 use Rattle.model.specs.Sheet.{Reading, Fault, good, refusal, then, readSheet}
 use Rattle.sheet.specs.Union.{unionFrom}
-use Rattle.sheet.specs.Answers.{checkedOf, unionIn}
+use Rattle.sheet.specs.Answers.{findingOf, unionIn}
 use Rattle.sheet.specs.Whole.{IsSheet}
-use Rattle.sheet.specs.declared.Checked.the-variants as C
+use Rattle.sheet.specs.declared.Finding.the-variants as F
 
-pub checked-then : {A B : Type 0} (f : A → B) (r : Reading Fault A) → checkedOf (then r (λ a. good (f a))) ≡ checkedOf r
-unfolding checkedOf then
-checked-then f (good a) = refl
-checked-then f (refusal e) = refl
+pub finding-then : {A B : Type 0} (f : A → B) (r : Reading Fault A) → findingOf (then r (λ a. good (f a))) ≡ findingOf r
+unfolding findingOf then
+finding-then f (good a) = refl
+finding-then f (refusal e) = refl
 
 pub union-then : (union mask : ℕ) (r : Reading Fault (List ℕ))
     → unionIn union (then r (λ masks. good (mask ∷ masks))) ≡ unionIn (bitOr union mask) r
@@ -22,20 +22,20 @@ unfolding unionIn unionFrom then
 union-then union mask (good masks) = refl
 union-then union mask (refusal f) = refl
 
-checked-whole : {A : Type 0} (r : Reading Fault A) → checkedOf r ≡ C.Whole → (a : A) × (r ≡ good a)
-unfolding checkedOf
-checked-whole (good a) h = (a, refl)
-checked-whole (refusal f) h = let z : _≡_ {A = ℕ} 0 1 = cc in absurd (omega arith)
+finding-whole : {A : Type 0} (r : Reading Fault A) → findingOf r ≡ F.Whole → (a : A) × (r ≡ good a)
+unfolding findingOf
+finding-whole (good a) h = (a, refl)
+finding-whole (refusal f) h = let z : _≡_ {A = ℕ} 0 1 = cc in absurd (omega arith)
 
 -- bytes answered to be whole are a sheet
-pub whole-sheet : (b : List ℕ) → checkedOf (readSheet b) ≡ C.Whole → IsSheet b
-whole-sheet b h = checked-whole (readSheet b) h
+pub whole-sheet : (b : List ℕ) → findingOf (readSheet b) ≡ F.Whole → IsSheet b
+whole-sheet b h = finding-whole (readSheet b) h
 
 -- any other answer is the refusal's
-pub fault-refusal : {A : Type 0} (r : Reading Fault A) (number state offset : ℕ) → checkedOf r
-    ≡ C.Fault number state offset
+pub fault-refusal : {A : Type 0} (r : Reading Fault A) (number state offset : ℕ) → findingOf r
+    ≡ F.Fault number state offset
     → r ≡ refusal (record { number = number; state = state; offset = offset })
-unfolding checkedOf
+unfolding findingOf
 fault-refusal (good a) number state offset h = let z : _≡_ {A = ℕ} 0 1 = cc in absurd (omega arith)
 fault-refusal (refusal f) number state offset h =
     let n : f .number ≡ number = cc in

@@ -7,4 +7,5 @@ pub mod Whole
 pub mod Answers
 pub mod RowAnswers
 pub mod SheetAnswers
+pub mod ReadySets
 pub mod calls

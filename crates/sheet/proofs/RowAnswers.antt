@@ -16,21 +16,21 @@ use Rattle.model.specs.Contract.{actions, offersIn}
 use Rattle.model.specs.Sheet as model
 use Rattle.model.specs.Sheet.{Reading, Fault, Trailer, good, refusal, check, then, strayBit, masksFrom, successorsFrom, rowWith, rowAt}
 use Rattle.sheet.specs.Union.{unionFrom, unionOf, onesBelow}
-use Rattle.sheet.specs.Answers.{checkedOf, unionIn, behindIn}
+use Rattle.sheet.specs.Answers.{findingOf, unionIn, behindIn}
 use Rattle.sheet.proofs.Ones.{ones-offered}
-use Rattle.sheet.proofs.Answers.{checked-then, union-then}
+use Rattle.sheet.proofs.Answers.{finding-then, union-then}
 use Rattle.sheet.proofs.Rows.{row-reading}
-use Rattle.sheet.specs.declared.Checked.{Checked}
-use Rattle.sheet.specs.declared.Checked.the-variants as C
+use Rattle.sheet.specs.declared.Finding.{Finding}
+use Rattle.sheet.specs.declared.Finding.the-variants as F
 use Rattle.sheet.specs.declared.parts.Masks.{Masks}
 use Rattle.sheet.specs.declared.parts.Masks.the-variants as M
 use Rattle.sheet.specs.declared.parts.Row.{Row}
 use Rattle.sheet.specs.declared.parts.Row.the-variants as R
 
 -- a row whose successors end at i
-behindOf : ℕ → Checked → Row
-behindOf i C.Whole = R.Behind i
-behindOf i (C.Fault number state offset) = R.Fault number state offset
+behindOf : ℕ → Finding → Row
+behindOf i F.Whole = R.Behind i
+behindOf i (F.Fault number state offset) = R.Fault number state offset
 
 module _ (b : List ℕ) (t : Trailer) (q : ℕ) where
   -- ---- masks
@@ -62,31 +62,31 @@ module _ (b : List ℕ) (t : Trailer) (q : ℕ) where
         (union-then union (word b i) (masksFrom b t q left (suc (word b i)) (i + 2))))
 
   -- ---- successors
-  pub successors-none : (left i : ℕ) → left ≤ 0 → checkedOf (successorsFrom b t q left i) ≡ C.Whole
-  unfolding successorsFrom checkedOf
+  pub successors-none : (left i : ℕ) → left ≤ 0 → findingOf (successorsFrom b t q left i) ≡ F.Whole
+  unfolding successorsFrom findingOf
   successors-none zero i h = refl
   successors-none (suc left) i h = absurd (omega arith)
 
   pub successors-fault : (left i : ℕ) → 0 < left → t .count ≤ byte b i
-      → checkedOf (successorsFrom b t q left i) ≡ C.Fault 7 q i
-  unfolding successorsFrom checkedOf check
+      → findingOf (successorsFrom b t q left i) ≡ F.Fault 7 q i
+  unfolding successorsFrom findingOf check
   successors-fault zero i h l = absurd (omega arith)
   successors-fault (suc left) i h l = simp (le-ltb (byte b i) (t .count) l)
 
   pub successors-more : (left i : ℕ) → 0 < left → byte b i < t .count
-      → checkedOf (successorsFrom b t q left i) ≡ checkedOf (successorsFrom b t q (left - 1) (i + 1))
+      → findingOf (successorsFrom b t q left i) ≡ findingOf (successorsFrom b t q (left - 1) (i + 1))
   unfolding successorsFrom check
   successors-more zero i h l = absurd (omega arith)
   successors-more (suc left) i h l =
       rw (sub-one (suc left))
       (simp (lt-ltb (byte b i) (t .count) l)
-      (checked-then (λ successors. byte b i ∷ successors) (successorsFrom b t q left (i + 1))))
+      (finding-then (λ successors. byte b i ∷ successors) (successorsFrom b t q left (i + 1))))
 
   -- ---- what follows the masks at i: the answer depends only on how many actions are offered
   behindMasks : (i offered : ℕ) → Row
   behindMasks i offered =
       cond (leb (i + offered) (t .index))
-      (behindOf (i + offered) (checkedOf (successorsFrom b t q offered i)))
+      (behindOf (i + offered) (findingOf (successorsFrom b t q offered i)))
       (R.Fault 4 q (t .index))
 
   module _ (ready : List ℕ) where
@@ -94,15 +94,15 @@ module _ (b : List ℕ) (t : Trailer) (q : ℕ) where
     rowOf i successors = record { state = record { ready = ready; successors = successors }; behind = i }
 
     behind-then : (i : ℕ) (r : Reading Fault (List ℕ))
-        → behindIn (then r (λ successors. good (rowOf i successors))) ≡ behindOf i (checkedOf r)
-    unfolding behindIn then checkedOf behindOf rowOf
+        → behindIn (then r (λ successors. good (rowOf i successors))) ≡ behindOf i (findingOf r)
+    unfolding behindIn then findingOf behindOf rowOf
     behind-then i (good successors) = refl
     behind-then i (refusal f) = refl
 
     behind-test : (i offered : ℕ) (present : Bool)
         → behindIn (check present (record { number = 4; state = q; offset = t .index })
         (then (successorsFrom b t q offered i) (λ successors. good (rowOf (i + offered) successors))))
-        ≡ cond present (behindOf (i + offered) (checkedOf (successorsFrom b t q offered i))) (R.Fault 4 q (t .index))
+        ≡ cond present (behindOf (i + offered) (findingOf (successorsFrom b t q offered i))) (R.Fault 4 q (t .index))
     unfolding check behindIn
     behind-test i offered true = behind-then (i + offered) (successorsFrom b t q offered i)
     behind-test i offered false = refl
@@ -126,17 +126,17 @@ module _ (b : List ℕ) (t : Trailer) (q : ℕ) where
     unfolding behindMasks
     behind-short l = simp (lt-leb _ _ l) at behind-offered
 
-    module _ (l : i + offered ≤ t .index) (r : Checked) (e : r ≡ checkedOf (successorsFrom b t q offered i)) where
+    module _ (l : i + offered ≤ t .index) (r : Finding) (e : r ≡ findingOf (successorsFrom b t q offered i)) where
       behind-checked : behindOf (i + offered) r ≡ behindIn (rowWith b t q i (union ∷ []))
       unfolding behindMasks
       behind-checked = rw e (simp (le-leb _ _ l) at behind-offered)
 
-      pub behind-fault : (number state offset : ℕ) → r ≡ C.Fault number state offset
+      pub behind-fault : (number state offset : ℕ) → r ≡ F.Fault number state offset
           → R.Fault number state offset ≡ behindIn (rowWith b t q i (union ∷ []))
       unfolding behindOf
       behind-fault number state offset f = ap (behindOf (i + offered)) (sym f) ∙ behind-checked
 
-      pub behind-whole : r ≡ C.Whole → R.Behind (i + offered) ≡ behindIn (rowWith b t q i (union ∷ []))
+      pub behind-whole : r ≡ F.Whole → R.Behind (i + offered) ≡ behindIn (rowWith b t q i (union ∷ []))
       unfolding behindOf
       behind-whole f = ap (behindOf (i + offered)) (sym f) ∙ behind-checked
 

@@ -13,52 +13,52 @@ use Rattle.model.specs.Bytes.{word}
 use Rattle.model.specs.Contract.{State}
 use Rattle.model.specs.Sheet as model
 use Rattle.model.specs.Sheet.{Reading, Fault, Trailer, good, refusal, check, then, rowAt, statesFrom, goodTrailer, trailer, readSheet}
-use Rattle.sheet.specs.Answers.{checkedOf, behindIn}
-use Rattle.sheet.proofs.Answers.{checked-then}
-use Rattle.sheet.specs.declared.Checked.{Checked}
-use Rattle.sheet.specs.declared.Checked.the-variants as C
+use Rattle.sheet.specs.Answers.{findingOf, behindIn}
+use Rattle.sheet.proofs.Answers.{finding-then}
+use Rattle.sheet.specs.declared.Finding.{Finding}
+use Rattle.sheet.specs.declared.Finding.the-variants as F
 use Rattle.sheet.specs.declared.parts.Row.{Row}
 use Rattle.sheet.specs.declared.parts.Row.the-variants as R
 
 -- ---- states
 -- a row's answer, gone on with the states behind it
-statesOf : (ℕ → Checked) → Row → Checked
+statesOf : (ℕ → Finding) → Row → Finding
 statesOf rest (R.Behind i) = rest i
-statesOf rest (R.Fault number state offset) = C.Fault number state offset
+statesOf rest (R.Fault number state offset) = F.Fault number state offset
 
 module _ (b : List ℕ) (t : Trailer) where
-  restOf : (left q i : ℕ) → Checked
-  restOf left q i = checkedOf (statesFrom b t left q i)
+  restOf : (left q i : ℕ) → Finding
+  restOf left q i = findingOf (statesFrom b t left q i)
 
   row-then : (left q : ℕ) (r : Reading Fault model.Row)
-      → checkedOf (then r (λ row. then (statesFrom b t left q (row .behind)) (λ states. good (row .state ∷ states))))
+      → findingOf (then r (λ row. then (statesFrom b t left q (row .behind)) (λ states. good (row .state ∷ states))))
       ≡ statesOf (restOf left q) (behindIn r)
-  unfolding then behindIn statesOf restOf checkedOf
-  row-then left q (good row) = checked-then (λ states. row .state ∷ states) (statesFrom b t left q (row .behind))
+  unfolding then behindIn statesOf restOf findingOf
+  row-then left q (good row) = finding-then (λ states. row .state ∷ states) (statesFrom b t left q (row .behind))
   row-then left q (refusal f) = refl
 
   module _ (left q i : ℕ) (h : left ≤ 0) where
-    states-none : checkedOf (statesFrom b t left q i) ≡ checkedOf (statesFrom b t 0 q i)
-    states-none = ap (λ (n : ℕ). checkedOf (statesFrom b t n q i)) (omega arith)
+    states-none : findingOf (statesFrom b t left q i) ≡ findingOf (statesFrom b t 0 q i)
+    states-none = ap (λ (n : ℕ). findingOf (statesFrom b t n q i)) (omega arith)
 
-    pub states-gap : (i ≡ t .index → ⊥) → checkedOf (statesFrom b t left q i) ≡ C.Fault 4 (q - 1) i
-    unfolding statesFrom check checkedOf
+    pub states-gap : (i ≡ t .index → ⊥) → findingOf (statesFrom b t left q i) ≡ F.Fault 4 (q - 1) i
+    unfolding statesFrom check findingOf
     states-gap n = states-none ∙ simp (ne-eqb i (t .index) n)
 
-    pub states-whole : i ≡ t .index → checkedOf (statesFrom b t left q i) ≡ C.Whole
-    unfolding statesFrom check checkedOf
+    pub states-whole : i ≡ t .index → findingOf (statesFrom b t left q i) ≡ F.Whole
+    unfolding statesFrom check findingOf
     states-whole e = states-none ∙ simp (eq-eqb i (t .index) e)
 
   module _ (q i entry : ℕ) (w : entry ≡ word b (t .index + 2 * q)) where
     pub states-entry : (left : ℕ) → 0 < left → (entry ≡ i → ⊥)
-        → checkedOf (statesFrom b t left q i) ≡ C.Fault 4 q (t .index + 2 * q)
-    unfolding statesFrom check checkedOf
+        → findingOf (statesFrom b t left q i) ≡ F.Fault 4 q (t .index + 2 * q)
+    unfolding statesFrom check findingOf
     states-entry zero h n = absurd (omega arith)
     states-entry (suc left) h n = simp (ne-eqb (word b (t .index + 2 * q)) i (rw w at n))
 
     module _ (e : entry ≡ i) (r : Row) (f : r ≡ behindIn (rowAt b t q i)) where
       states-row : (left : ℕ) → 0 < left
-          → checkedOf (statesFrom b t left q i) ≡ statesOf (restOf (left - 1) (q + 1)) r
+          → findingOf (statesFrom b t left q i) ≡ statesOf (restOf (left - 1) (q + 1)) r
       unfolding statesFrom check
       states-row zero h = absurd (omega arith)
       states-row (suc left) h =
@@ -66,12 +66,12 @@ module _ (b : List ℕ) (t : Trailer) where
           (simp (eq-eqb (word b (t .index + 2 * q)) i (rw w at e)) (row-then left (suc q) (rowAt b t q i)))
 
       pub states-fault : (left : ℕ) → 0 < left → (number state offset : ℕ) → r ≡ R.Fault number state offset
-          → checkedOf (statesFrom b t left q i) ≡ C.Fault number state offset
+          → findingOf (statesFrom b t left q i) ≡ F.Fault number state offset
       unfolding statesOf
       states-fault left h number state offset g = states-row left h ∙ ap (statesOf (restOf (left - 1) (q + 1))) g
 
       pub states-more : (left : ℕ) → 0 < left → (behind : ℕ) → r ≡ R.Behind behind
-          → checkedOf (statesFrom b t left q i) ≡ checkedOf (statesFrom b t (left - 1) (q + 1) behind)
+          → findingOf (statesFrom b t left q i) ≡ findingOf (statesFrom b t (left - 1) (q + 1) behind)
       unfolding statesOf restOf
       states-more left h behind g = states-row left h ∙ ap (statesOf (restOf (left - 1) (q + 1))) g
 
@@ -84,35 +84,35 @@ trailer-closing t some few names roles =
 
 -- ---- a sheet whose trailer is t
 module _ (b : List ℕ) where
-  pub sheet-short : length b < 6 → C.Fault 1 0 0 ≡ checkedOf (readSheet b)
-  unfolding readSheet check checkedOf
+  pub sheet-short : length b < 6 → F.Fault 1 0 0 ≡ findingOf (readSheet b)
+  unfolding readSheet check findingOf
   sheet-short h = simp (lt-leb 6 (length b) h)
 
   module _ (h : 6 ≤ length b) where
-    pub sheet-long : 2118 < length b → C.Fault 1 0 0 ≡ checkedOf (readSheet b)
-    unfolding readSheet check checkedOf
+    pub sheet-long : 2118 < length b → F.Fault 1 0 0 ≡ findingOf (readSheet b)
+    unfolding readSheet check findingOf
     sheet-long l = simp (le-leb 6 (length b) h, lt-leb (length b) 2118 l)
 
     module _ (l : length b ≤ 2118) (t : Trailer) (e : t ≡ trailer b) where
-      pub sheet-trailer : goodTrailer t ≡ false → C.Fault 2 0 0 ≡ checkedOf (readSheet b)
-      unfolding readSheet check checkedOf
+      pub sheet-trailer : goodTrailer t ≡ false → F.Fault 2 0 0 ≡ findingOf (readSheet b)
+      unfolding readSheet check findingOf
       sheet-trailer g = simp (le-leb 6 (length b) h, le-leb (length b) 2118 l, ap goodTrailer (sym e) ∙ g)
 
       module _ (g : goodTrailer t ≡ true) where
-        pub sheet-index : (t .index + 2 * t .count + 6 ≡ length b → ⊥) → C.Fault 3 0 0 ≡ checkedOf (readSheet b)
-        unfolding readSheet check checkedOf
+        pub sheet-index : (t .index + 2 * t .count + 6 ≡ length b → ⊥) → F.Fault 3 0 0 ≡ findingOf (readSheet b)
+        unfolding readSheet check findingOf
         sheet-index n =
             simp
             (le-leb 6 (length b) h, le-leb (length b) 2118 l, ap goodTrailer (sym e) ∙ g, ne-eqb _ _ (rw e at n))
 
         pub sheet-states : t .index + 2 * t .count + 6 ≡ length b
-            → checkedOf (statesFrom b t (t .count) 0 0) ≡ checkedOf (readSheet b)
+            → findingOf (statesFrom b t (t .count) 0 0) ≡ findingOf (readSheet b)
         unfolding readSheet check
         sheet-states n =
             let states = statesFrom b (trailer b) (trailer b .count) 0 0 in
             let whole : List State → model.Sheet =
             λ states. record { contract = record { n = trailer b .n; states = states }; role = trailer b .role } in
-            ap (λ (u : Trailer). checkedOf (statesFrom b u (u .count) 0 0)) e
+            ap (λ (u : Trailer). findingOf (statesFrom b u (u .count) 0 0)) e
             ∙ simp
             (le-leb 6 (length b) h, le-leb (length b) 2118 l, ap goodTrailer (sym e) ∙ g, eq-eqb _ _ (rw e at n))
-            (sym (checked-then whole states))
+            (sym (finding-then whole states))

@@ -13,8 +13,8 @@ use Rattle.model.specs.Contract.{State, state, nowhere, has, offers, after}
 use Rattle.model.specs.Sheet.{Reading, Fault, Trailer, Sheet, good, trailer, goodTrailer, readSheet, sheetOf, contractIn, roleIn}
 use Rattle.model.proofs.Sheet.{WellFormed, good-injective, then-good, sheet-well-formed}
 use Rattle.sheet.specs.Union.{unionOf, onesBelow}
-use Rattle.sheet.specs.Whole.{IsSheet, rowStart}
-use Rattle.sheet.specs.Offer.{offerIn, placeIn}
+use Rattle.sheet.specs.Whole.{IsSheet, IsState, rowStart}
+use Rattle.sheet.specs.Offer.{offerIn, placeIn, IsOffered}
 use Rattle.sheet.specs.declared.Offer.{Offer}
 use Rattle.sheet.proofs.Union.{has-union}
 use Rattle.sheet.proofs.Ones.{ones-offered, ones-less, ones-place}
@@ -85,7 +85,8 @@ pub offer-has : (b : List ℕ) (q j : ℕ) {o : Offer} → o ≡ offerIn b q →
 unfolding offerIn offers
 offer-has b q j e = ap (λ (o : Offer). has (o .actions) j) e ∙ has-union (state (contractIn b) q .ready) j
 
--- ---- the trailer and the rows
+-- ---- the trailer
+
 module _ (b : List ℕ) (whole : IsSheet b) where
   count-is : trailer b .count ≡ length (contractIn b .states)
   count-is = sym (sheet-stands b whole .states .size)
@@ -93,46 +94,51 @@ module _ (b : List ℕ) (whole : IsSheet b) where
   pub states-some : 1 ≤ length (contractIn b .states)
   states-some = omega (arith, count-is, sheet-stands b whole .numbers .some)
 
-  module _ (q : ℕ) (h : q < length (contractIn b .states)) where
-    abbrev s : State
-    s = state (contractIn b) q
+-- ---- the row of a state
 
-    -- the row of a state stands where the index says, with the state's ready sets and successors
-    pub row-stands : RowStands b (trailer b) (rowStart b q) s
-    unfolding rowStart state
-    row-stands =
-        subst
-        (λ (k : ℕ). RowStands b (trailer b) (word b (trailer b .index + 2 * k)) (getD (contractIn b .states) q nowhere))
-        (omega arith)
-        (sheet-stands b whole .states .each q (omega (arith, count-is)))
+abbrev stateIn : List ℕ → ℕ → State
+stateIn b q = state (contractIn b) q
 
-    pub row-within : rowStart b q + 1 + 2 * length (s .ready) + length (s .successors) ≤ length b
-    row-within = omega (arith, row-stands .inside, sheet-stands b whole .ends)
+module _ {b : List ℕ} {q : ℕ} (at : IsState b q) where
+  -- the row of a state stands where the index says, with the state's ready sets and successors
+  pub row-stands : RowStands b (trailer b) (rowStart b q) (stateIn b q)
+  unfolding rowStart state
+  row-stands =
+      subst
+      (λ (k : ℕ). RowStands b (trailer b) (word b (trailer b .index + 2 * k)) (getD (contractIn b .states) q nowhere))
+      (omega arith)
+      (sheet-stands b (at .sheet) .states .each q (omega (arith, count-is b (at .sheet), at .state)))
 
-    pub entry-within : trailer b .index + 2 * q + 1 < length b
-    entry-within = omega (arith, count-is, sheet-stands b whole .ends)
+  pub row-within : rowStart b q + 1 + 2 * length (stateIn b q .ready) + length (stateIn b q .successors) ≤ length b
+  row-within = omega (arith, row-stands .inside, sheet-stands b (at .sheet) .ends)
 
-    -- ---- an action that the state offers
-    module _ (j : ℕ) (l : j < 14) (o : offers s j ≡ true) where
-      pub place-within : onesBelow (unionOf (s .ready)) j < length (s .successors)
-      unfolding offers
-      place-within =
-          let bit = has-union (s .ready) j ∙ o in
-          omega (arith, row-stands .offered, ones-offered (s .ready), ones-less (unionOf (s .ready)) j 14 bit l)
+  pub entry-within : trailer b .index + 2 * q + 1 < length b
+  entry-within = omega (arith, count-is b (at .sheet), sheet-stands b (at .sheet) .ends, at .state)
 
-      -- its successor stands behind the masks, at its place: the row's offset, 1, 2 for each ready set, and the lower actions offered
-      pub successor-within : {o : Offer} → o ≡ offerIn b q → placeIn o j < length b
-      unfolding offerIn placeIn
-      successor-within e = subst⁻¹ (λ (o : Offer). placeIn o j < length b) e (omega (arith, row-within, place-within))
+-- ---- an action that a state offers
+module _ {b : List ℕ} {q j : ℕ} (is : IsOffered b q j) where
+  place-within : onesBelow (unionOf (stateIn b q .ready)) j < length (stateIn b q .successors)
+  unfolding offers
+  place-within =
+      let bit = has-union (stateIn b q .ready) j ∙ is .offered in
+      omega (arith, row-stands (is .at) .offered, ones-offered (stateIn b q .ready), ones-less (unionOf (stateIn b q .ready)) j 14 bit (is .action))
 
-      pub successor-stands : {o : Offer} → o ≡ offerIn b q → byte b (placeIn o j) ≡ after s j
-      unfolding after offerIn placeIn
-      successor-stands e =
-          ap (λ (o : Offer). byte b (placeIn o j)) e
-          ∙ row-stands .successors _ place-within
-          ∙ ap (λ (k : ℕ). getD (s .successors) k 0) (sym (ones-place s j (omega arith)))
+  -- its successor stands behind the masks, at its place: the row's offset, 1, 2 for each ready set, and the lower actions offered
+  pub successor-within : {o : Offer} → o ≡ offerIn b q → placeIn o j < length b
+  unfolding offerIn placeIn
+  successor-within e = subst⁻¹ (λ (o : Offer). placeIn o j < length b) e (omega (arith, row-within (is .at), place-within))
 
-      -- its successor is a state
-      pub successor-below : after s j < length (contractIn b .states)
-      unfolding after
-      successor-below = rw (ones-place s j (omega arith)) (omega (arith, count-is, row-stands .within _ place-within))
+  pub successor-stands : {o : Offer} → o ≡ offerIn b q → byte b (placeIn o j) ≡ after (stateIn b q) j
+  unfolding after offerIn placeIn
+  successor-stands e =
+      ap (λ (o : Offer). byte b (placeIn o j)) e
+      ∙ row-stands (is .at) .successors _ place-within
+      ∙ ap (λ (k : ℕ). getD (stateIn b q .successors) k 0) (sym (ones-place (stateIn b q) j (omega (arith, is .action))))
+
+  -- its successor is a state
+  pub successor-state : {to : ℕ} → to ≡ after (stateIn b q) j → IsState b to
+  unfolding after
+  successor-state e =
+      let place = ones-place (stateIn b q) j (omega (arith, is .action)) in
+      let below = row-stands (is .at) .within _ place-within in
+      record { sheet = is .at .sheet; state = rw (e, place) (omega (arith, count-is b (is .at .sheet), below)) }

@@ -6,8 +6,8 @@ use Rattle.model.specs.Sheet as model
 use Rattle.model.specs.Sheet.{Reading, Fault, good, refusal}
 use Rattle.sheet.specs.Union.{unionFrom}
 use Rattle.sheet.specs.declared.parts.Trailer as declared
-use Rattle.sheet.specs.declared.Checked.{Checked}
-use Rattle.sheet.specs.declared.Checked.the-variants as C
+use Rattle.sheet.specs.declared.Finding.{Finding}
+use Rattle.sheet.specs.declared.Finding.the-variants as F
 use Rattle.sheet.specs.declared.parts.Masks.{Masks}
 use Rattle.sheet.specs.declared.parts.Masks.the-variants as M
 use Rattle.sheet.specs.declared.parts.Row.{Row}
@@ -19,9 +19,9 @@ trailerOf t =
     record { index = t .index; count = t .count; n = t .n; role = t .role; closing = t .closing }
 
 -- a reading as an answer: the number, state and offset of its fault
-unfoldable pub checkedOf : {A : Type 0} → Reading Fault A → Checked
-checkedOf (good a) = C.Whole
-checkedOf (refusal f) = C.Fault (f .number) (f .state) (f .offset)
+unfoldable pub findingOf : {A : Type 0} → Reading Fault A → Finding
+findingOf (good a) = F.Whole
+findingOf (refusal f) = F.Fault (f .number) (f .state) (f .offset)
 
 -- masks that were read, together with those of `union`
 unfoldable pub unionIn : ℕ → Reading Fault (List ℕ) → Masks

@@ -1,25 +1,25 @@
 // Contract sheets: whether bytes are a sheet, and what stands in one. Document 01, "Contracts as sheets".
 ghost use mathlib.Core.Path.{_≡_};
-ghost use mathlib.Core.Bool.{true};
-ghost use Prim.Native.Nat.{_+_, _≤_, _<_};
+ghost use Prim.Native.Nat.{_≤_, _<_};
 ghost use lib.ListN.{length, getD};
-ghost use Rattle.model.specs.Bytes.{byte, word};
-ghost use Rattle.model.specs.Contract.{state, has, offers, after};
+ghost use Rattle.model.specs.Bytes.{byte};
+ghost use Rattle.model.specs.Contract.{partner, state, has, offers, after};
 ghost use Rattle.model.specs.Sheet.{readSheet, contractIn, roleIn};
 ghost use Rattle.sheet.specs.Union.{unionOf, onesBelow};
-ghost use Rattle.sheet.specs.Answers.{checkedOf};
-ghost use Rattle.sheet.specs.Whole.{IsSheet, rowStart};
-ghost use Rattle.sheet.specs.Offer.{offerIn, placeIn};
+ghost use Rattle.sheet.specs.Answers.{findingOf};
+ghost use Rattle.sheet.specs.Whole.{IsSheet, IsState, rowStart};
+ghost use Rattle.sheet.specs.Offer.{offerIn, placeIn, IsOffered};
 
 mod parts;
 
+use little_endian::word_at;
 use parts::check_states;
 use parts::good_trailer;
 use parts::read_trailer;
 
 // Whether bytes are a sheet: whole, or a fault with its number in document 01's table, the state and the offset of the
 // byte at fault.
-pub enum Checked {
+pub enum Finding {
     Whole,
     Fault(u8, u8, u16),
 }
@@ -31,20 +31,20 @@ pub struct Offer {
     pub successors: usize,
 }
 
-// The 16-bit number at an offset.
-pub fn word_at(b: &[u8], i: usize) -> u16
-    requires { ⌜ i + 1 < length (now b) ⌝ }
-    ensures { λ r. ⌜ r ≡ word (now (b .entry)) i ⌝ }
-{
-    b[i] as u16 + 256 * (b[i + 1] as u16)
-}
-
 // Whether a mask has bit j.
 pub fn has_bit(mask: u16, j: u8) -> bool
     requires { ⌜ j < 16 ⌝ }
     ensures { λ r. ⌜ r ≡ has mask j ⌝ }
 {
     (mask >> j) % 2 == 1
+}
+
+// An action's partner.
+pub fn partner(j: u8) -> u8
+    requires action { ⌜ j < 14 ⌝ }
+    ensures { λ r. ⌜ (r ≡ partner j) × (r < 14) ⌝ }
+{
+    if j < 7 { j + 7 } else { j - 7 }
 }
 
 // How many of the bits below j a mask has.
@@ -57,21 +57,21 @@ fn ones_below(mask: u16, j: u8) -> usize
 }
 
 // Whether bytes are a sheet, or the first of refusals 1 to 7.
-pub fn check_sheet(b: &[u8]) -> Checked
-    ensures { λ r. ⌜ r ≡ checkedOf (readSheet (now (b .entry))) ⌝ }
+pub fn check_sheet(b: &[u8]) -> Finding
+    ensures { λ r. ⌜ r ≡ findingOf (readSheet (now (b .entry))) ⌝ }
 {
     if b.len() < 6 {
-        return Checked::Fault(1, 0, 0);
+        return Finding::Fault(1, 0, 0);
     }
     if 2118 < b.len() {
-        return Checked::Fault(1, 0, 0);
+        return Finding::Fault(1, 0, 0);
     }
     let t = read_trailer(b);
     if !good_trailer(t) {
-        return Checked::Fault(2, 0, 0);
+        return Finding::Fault(2, 0, 0);
     }
     if t.index as usize + 2 * (t.count as usize) + 6 != b.len() {
-        return Checked::Fault(3, 0, 0);
+        return Finding::Fault(3, 0, 0);
     }
     check_states(b, t)
 }
@@ -94,7 +94,7 @@ pub fn role(b: &[u8]) -> u8
 
 // Where the row of state q begins.
 fn row_start(b: &[u8], q: u8) -> usize
-    requires { ⌜ IsSheet (now b) × (q < length (contractIn (now b) .states)) ⌝ }
+    requires { ⌜ IsState (now b) q ⌝ }
     ensures { λ r. ⌜ r ≡ rowStart (now (b .entry)) q ⌝ }
 {
     let index = word_at(b, b.len() - 6) as usize;
@@ -103,7 +103,7 @@ fn row_start(b: &[u8], q: u8) -> usize
 
 // How many ready sets state q has.
 pub fn ready_count(b: &[u8], q: u8) -> u8
-    requires { ⌜ IsSheet (now b) × (q < length (contractIn (now b) .states)) ⌝ }
+    requires { ⌜ IsState (now b) q ⌝ }
     ensures { λ r. ⌜ r ≡ length (state (contractIn (now (b .entry))) q .ready) ⌝ }
 {
     b[row_start(b, q)]
@@ -111,7 +111,7 @@ pub fn ready_count(b: &[u8], q: u8) -> u8
 
 // Ready set i of state q, as a mask.
 pub fn ready_set(b: &[u8], q: u8, i: u8) -> u16
-    requires { ⌜ IsSheet (now b) × (q < length (contractIn (now b) .states)) × (i < length (state (contractIn (now b)) q .ready)) ⌝ }
+    requires { ⌜ IsState (now b) q × (i < length (state (contractIn (now b)) q .ready)) ⌝ }
     ensures { λ r. ⌜ r ≡ getD (state (contractIn (now (b .entry))) q .ready) i 0 ⌝ }
 {
     word_at(b, row_start(b, q) + 1 + 2 * (i as usize))
@@ -119,7 +119,7 @@ pub fn ready_set(b: &[u8], q: u8, i: u8) -> u16
 
 // The union of the ready sets of state q, as a mask.
 fn offered(b: &[u8], q: u8) -> u16
-    requires { ⌜ IsSheet (now b) × (q < length (contractIn (now b) .states)) ⌝ }
+    requires { ⌜ IsState (now b) q ⌝ }
     ensures { λ r. ⌜ r ≡ unionOf (state (contractIn (now (b .entry))) q .ready) ⌝ }
 {
     let mut left = ready_count(b, q);
@@ -135,7 +135,7 @@ fn offered(b: &[u8], q: u8) -> u16
 
 // Whether state q offers action j.
 pub fn offers_action(b: &[u8], q: u8, j: u8) -> bool
-    requires { ⌜ IsSheet (now b) × (q < length (contractIn (now b) .states)) × (j < 14) ⌝ }
+    requires { ⌜ IsState (now b) q × (j < 14) ⌝ }
     ensures { λ r. ⌜ r ≡ offers (state (contractIn (now (b .entry))) q) j ⌝ }
 {
     has_bit(offered(b, q), j)
@@ -143,7 +143,7 @@ pub fn offers_action(b: &[u8], q: u8, j: u8) -> bool
 
 // What state q offers.
 pub fn offer_of(b: &[u8], q: u8) -> Offer
-    requires { ⌜ IsSheet (now b) × (q < length (contractIn (now b) .states)) ⌝ }
+    requires { ⌜ IsState (now b) q ⌝ }
     ensures { λ r. ⌜ r ≡ offerIn (now (b .entry)) q ⌝ }
 {
     Offer {
@@ -163,7 +163,7 @@ pub fn successor_in(b: &[u8], offer: Offer, j: u8) -> u8
 
 // The state that state q goes on to by an action j that it offers.
 pub fn successor(b: &[u8], q: u8, j: u8) -> u8
-    requires { ⌜ IsSheet (now b) × (q < length (contractIn (now b) .states)) × (j < 14) × (offers (state (contractIn (now b)) q) j ≡ true) ⌝ }
+    requires { ⌜ IsOffered (now b) q j ⌝ }
     ensures { λ r. ⌜ r ≡ after (state (contractIn (now (b .entry))) q) j ⌝ }
 {
     successor_in(b, offer_of(b, q), j)

@@ -6,10 +6,10 @@ ghost use mathlib.Core.List.{[], _∷_};
 ghost use Prim.Native.Nat.{_+_, _*_, _≤_};
 ghost use lib.ListN.{length};
 ghost use Rattle.model.specs.Sheet.{trailer, goodTrailer, strayBit, masksFrom, successorsFrom, rowWith, rowAt, statesFrom};
-ghost use Rattle.sheet.specs.Answers.{trailerOf, checkedOf, unionIn, behindIn};
-use super::Checked;
+ghost use Rattle.sheet.specs.Answers.{trailerOf, findingOf, unionIn, behindIn};
+use super::Finding;
 use super::ones_below;
-use super::word_at;
+use little_endian::word_at;
 
 // The last 6 bytes of a sheet.
 pub struct Trailer {
@@ -108,20 +108,20 @@ pub fn check_masks(b: &[u8], t: Trailer, q: u8, count: usize, at: usize) -> Mask
 }
 
 // The `count` successors of state q from an offset on: each a state of the sheet.
-pub fn check_successors(b: &[u8], t: Trailer, q: u8, count: usize, at: usize) -> Checked
+pub fn check_successors(b: &[u8], t: Trailer, q: u8, count: usize, at: usize) -> Finding
     requires { ⌜ (at + count ≤ length (now b)) × (length (now b) ≤ 2118) ⌝ }
-    ensures { λ r. ⌜ r ≡ checkedOf (successorsFrom (now (b .entry)) (trailerOf t) q count at) ⌝ }
+    ensures { λ r. ⌜ r ≡ findingOf (successorsFrom (now (b .entry)) (trailerOf t) q count at) ⌝ }
 {
     let mut left = count;
     let mut i = at;
     while 0 < left {
         if t.count <= b[i] {
-            return Checked::Fault(7, q, i as u16);
+            return Finding::Fault(7, q, i as u16);
         }
         i = i + 1;
         left = left - 1;
     }
-    Checked::Whole
+    Finding::Whole
 }
 
 // What follows the masks of state q: a successor for each offered action. The masks count only by their union.
@@ -135,8 +135,8 @@ pub fn check_behind(b: &[u8], t: Trailer, q: u8, at: usize, union: u16) -> Row
         return Row::Fault(4, q, t.index);
     }
     match check_successors(b, t, q, offered, at) {
-        Checked::Fault(number, state, offset) => Row::Fault(number, state, offset),
-        Checked::Whole => Row::Behind(at + offered),
+        Finding::Fault(number, state, offset) => Row::Fault(number, state, offset),
+        Finding::Whole => Row::Behind(at + offered),
     }
 }
 
@@ -167,9 +167,11 @@ pub fn check_row(b: &[u8], t: Trailer, q: u8, at: usize) -> Row
 }
 
 // All states: each row where the index says, directly behind the one before, the last up to the index.
-pub fn check_states(b: &[u8], t: Trailer) -> Checked
-    requires { ⌜ (goodTrailer (trailerOf t) ≡ true) × (t .index + 2 * t .count + 6 ≡ length (now b)) × (length (now b) ≤ 2118) ⌝ }
-    ensures { λ r. ⌜ r ≡ checkedOf (statesFrom (now (b .entry)) (trailerOf t) (t .count) 0 0) ⌝ }
+pub fn check_states(b: &[u8], t: Trailer) -> Finding
+    requires whole { ⌜ (goodTrailer (trailerOf t) ≡ true)
+        × (t .index + 2 * t .count + 6 ≡ length (now b))
+        × (length (now b) ≤ 2118) ⌝ }
+    ensures { λ r. ⌜ r ≡ findingOf (statesFrom (now (b .entry)) (trailerOf t) (t .count) 0 0) ⌝ }
 {
     let index = t.index as usize;
     let mut left = t.count;
@@ -178,11 +180,11 @@ pub fn check_states(b: &[u8], t: Trailer) -> Checked
     while 0 < left {
         let entry = index + 2 * (q as usize);
         if word_at(b, entry) as usize != at {
-            return Checked::Fault(4, q, entry as u16);
+            return Finding::Fault(4, q, entry as u16);
         }
         match check_row(b, t, q, at) {
             Row::Fault(number, state, offset) => {
-                return Checked::Fault(number, state, offset);
+                return Finding::Fault(number, state, offset);
             }
             Row::Behind(behind) => {
                 at = behind;
@@ -192,7 +194,7 @@ pub fn check_states(b: &[u8], t: Trailer) -> Checked
         left = left - 1;
     }
     if at != index {
-        return Checked::Fault(4, q - 1, at as u16);
+        return Finding::Fault(4, q - 1, at as u16);
     }
-    Checked::Whole
+    Finding::Whole
 }

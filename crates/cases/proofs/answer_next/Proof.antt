@@ -1,4 +1,4 @@
--- `cases::answer_next` is safe: a part of the space that is as long as the record has that length.
+-- `cases::answer_next` is safe: a part of the space that is as long as the case has that length.
 -- Assumes nothing.
 use native.Mathlib.Omega.{arith}
 use lib.ListN.{length-take}
@@ -6,8 +6,8 @@ use borrow.Author.Needs.{needs}
 use Rattle.cases.proofs.answer_next.Statement.{statement}
 use Rattle.cases.proofs.answer_next.Tie as tie
 
-read-record-requires : tie.Need-read-record-requires
-read-record-requires c κs = search needs
+read-frame-requires : tie.Need-read-frame-requires
+read-frame-requires c κs = search needs
 
 same-length : tie.Need-same-length
 same-length c = search needs
@@ -34,7 +34,7 @@ pub answer-next-spec : {M : Type 1} → statement M
 answer-next-spec =
     tie.close
     (tie.spec
-    read-record-requires
+    read-frame-requires
     same-length
     returns
     slice-reshare-prefix-answer

@@ -9,12 +9,11 @@ use lib.Seq.{length-take-le}
 use Rattle.model.specs.Bytes.{le32}
 use Rattle.model.specs.Plan.{Move, rowBytes, rowsBytes, indexBytes}
 use Rattle.model.proofs.PlanBytes.{length-32, length-index}
-use Rattle.plan.specs.Front.{front}
+use Rattle.little_endian.specs.Front.{front, Wrote}
 use Rattle.walks.proofs.Rest.{restOf, withRest}
-use Rattle.numbering.specs.Writing.{Wrote}
 use Rattle.numbering.proofs.lists.Bytes.{Measured, NextRow, measured-none, measured-more, measured-rows, rows-more}
 use Rattle.numbering.proofs.lists.Bytes.{index-more, rows-all, rows-fit}
-use Rattle.numbering.proofs.lists.Writing.{wrote-none, wrote-length, wrote-then, rest-length}
+use Rattle.little_endian.proofs.Writing.{wrote-none, wrote-length, wrote-then, rest-length}
 
 -- ---- the rows
 

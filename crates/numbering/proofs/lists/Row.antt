@@ -13,18 +13,17 @@ use Rattle.model.proofs.PlanBytes.{length-moves}
 use Rattle.keys.specs.Links.{codeAt}
 use Rattle.keys.proofs.Bits.{slotsIn}
 use Rattle.keys.proofs.Left.{Left, left-end, left-found, found-set, found-among}
-use Rattle.plan.specs.Front.{front}
+use Rattle.little_endian.specs.Front.{front, Wrote}
 use Rattle.plan.proofs.Written.{moves-append}
 use Rattle.walks.proofs.Rest.{restOf, withRest}
 use Rattle.numbering.specs.Kept.{keptStates, keptRow}
 use Rattle.numbering.specs.Numbered.{Numbers}
-use Rattle.numbering.specs.Writing.{Wrote}
 use Rattle.numbering.proofs.lists.Kept.{SettledLists, keptLink, kept-within, slot-none, slot-linked}
 use Rattle.numbering.proofs.lists.Moves.{moveBy, rowFrom, row-end, row-few, row-whole, row-none, row-by-numbers, numbered-link}
 use Rattle.numbering.proofs.lists.Moves.{state-below}
 use Rattle.numbering.proofs.lists.Bytes.{length-row}
 use Rattle.numbering.proofs.lists.Counts.{moves-shown}
-use Rattle.numbering.proofs.lists.Writing.{wrote-length, wrote-then, rest-length}
+use Rattle.little_endian.proofs.Writing.{wrote-length, wrote-then, rest-length}
 
 -- ---- a move
 

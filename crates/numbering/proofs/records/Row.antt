@@ -11,14 +11,14 @@ use Rattle.model.specs.Plan.{moveBytes, rowBytes}
 use Rattle.keys.specs.Links.{codeAt}
 use Rattle.keys.proofs.Bits.{slotsIn}
 use Rattle.keys.proofs.Left.{Left, found-among, left-next, left-less}
-use Rattle.plan.specs.Front.{front}
+use Rattle.little_endian.specs.Front.{front, Wrote}
 use Rattle.walks.proofs.Rest.{restOf, withRest}
 use Rattle.table.specs.declared.Record.{Record}
 use Rattle.table.specs.Records.{blank}
 use Rattle.table.specs.Lists.{slotsOf, linksOf, presentOf, marksOf, numbersOf}
 use Rattle.table.proofs.Lists.{numbers-length, numbers-at}
 use Rattle.numbering.specs.Table.{statesAt, rowAt}
-use Rattle.numbering.specs.Writing.{Wrote, RowToWrite}
+use Rattle.numbering.specs.Writing.{RowToWrite}
 use Rattle.numbering.proofs.lists.Kept.{SettledLists, all-left}
 use Rattle.numbering.proofs.lists.Moves.{moveBy, state-below}
 use Rattle.numbering.proofs.lists.Counts.{moves-few}

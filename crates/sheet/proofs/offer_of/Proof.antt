@@ -15,7 +15,7 @@ row-start-requires : tie.Need-row-start-requires
 row-start-requires c κs = search needs
 
 add-t5 : tie.Need-add-t5
-add-t5 c = let pre = c .before .before .before .pre in omega (arith, row-within _ (pre .0) _ (pre .1))
+add-t5 c = let pre = c .before .before .before .pre in omega (arith, row-within pre)
 
 ready-count-requires : tie.Need-ready-count-requires
 ready-count-requires c κs = search needs
@@ -27,7 +27,7 @@ mul-t8 : tie.Need-mul-t8
 mul-t8 c = search needs
 
 add-t9 : tie.Need-add-t9
-add-t9 c = let pre = c .before .before .before .before .pre in omega (arith, row-within _ (pre .0) _ (pre .1))
+add-t9 c = let pre = c .before .before .before .before .pre in omega (arith, row-within pre)
 
 returns : tie.Need-returns
 unfolding offerIn

@@ -28,7 +28,7 @@ loop-holds c = (refl, omega arith)
 
 ready-set-requires : tie.Need-ready-set-requires Inv-loop μ-loop
 ready-set-requires c κs =
-    (c .before .before .before .before .pre .0, c .before .before .before .before .pre .1, omega arith)
+    (c .before .before .before .before .pre, omega arith)
 
 add-i : tie.Need-add-i Inv-loop μ-loop
 add-i c = omega arith

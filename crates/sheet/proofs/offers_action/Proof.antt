@@ -9,7 +9,7 @@ use Rattle.sheet.proofs.offers_action.Statement.{statement}
 use Rattle.sheet.proofs.offers_action.Tie as tie
 
 offered-requires : tie.Need-offered-requires
-offered-requires c κs = (c .before .pre .0, c .before .pre .1)
+offered-requires c κs = c .before .pre .0
 
 has-bit-requires : tie.Need-has-bit-requires
 has-bit-requires c κs = omega arith

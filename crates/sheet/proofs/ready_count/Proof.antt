@@ -13,13 +13,12 @@ row-start-requires c κs = search needs
 
 shared-slice-read-result : tie.Need-shared-slice-read-result
 shared-slice-read-result c =
-    omega (arith, row-within _ (c .before .before .before .pre .0) _ (c .before .before .before .pre .1))
+    omega (arith, row-within (c .before .before .before .pre))
 
 returns : tie.Need-returns
 unfolding byte
 returns c =
-    ap (byte (c .before .before .before .args .b .now)) (c .before .row-start .ensures) ∙ row-stands _
-    (c .before .before .before .pre .0) _ (c .before .before .before .pre .1) .count
+    ap (byte (c .before .before .before .args .b .now)) (c .before .row-start .ensures) ∙ row-stands (c .before .before .before .pre) .count
 
 pub ready-count-spec : {M : Type 1} → statement M
 ready-count-spec = tie.close (tie.spec row-start-requires shared-slice-read-result returns)

@@ -10,26 +10,25 @@ use Rattle.sheet.proofs.ready_set.Statement.{statement}
 use Rattle.sheet.proofs.ready_set.Tie as tie
 
 row-start-requires : tie.Need-row-start-requires
-row-start-requires c κs = (c .before .pre .0, c .before .pre .1)
+row-start-requires c κs = c .before .pre .0
 
 add-word-at : tie.Need-add-word-at
-add-word-at c = omega (arith, row-within _ (c .before .before .pre .0) _ (c .before .before .pre .1))
+add-word-at c = omega (arith, row-within (c .before .before .pre .0))
 
 mul-word-at : tie.Need-mul-word-at
 mul-word-at c = search needs
 
 add-word-at-2 : tie.Need-add-word-at-2
-add-word-at-2 c = omega (arith, row-within _ (c .before .before .pre .0) _ (c .before .before .pre .1))
+add-word-at-2 c = omega (arith, row-within (c .before .before .pre .0))
 
 word-at-requires : tie.Need-word-at-requires
-word-at-requires c κs = omega (arith, row-within _ (c .before .before .pre .0) _ (c .before .before .pre .1))
+word-at-requires c κs = omega (arith, row-within (c .before .before .pre .0))
 
 returns : tie.Need-returns
 returns c =
     c .word-at .ensures ∙ ap (λ (p : ℕ). word (c .before .before .before .args .b .now)
-    (p + 1 + 2 * c .before .before .before .args .i)) (c .before .row-start .ensures) ∙ row-stands _
-    (c .before .before .before .pre .0) _ (c .before .before .before .pre .1) .masks _
-    (c .before .before .before .pre .2)
+    (p + 1 + 2 * c .before .before .before .args .i)) (c .before .row-start .ensures) ∙ row-stands (c .before .before .before .pre .0) .masks _
+    (c .before .before .before .pre .1)
 
 pub ready-set-spec : {M : Type 1} → statement M
 ready-set-spec =

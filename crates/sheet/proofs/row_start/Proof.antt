@@ -13,12 +13,12 @@ use Rattle.sheet.proofs.row_start.Tie as tie
 
 sub-word-at : tie.Need-sub-word-at
 sub-word-at c =
-    let s = sheet-stands _ (c .before .pre .0) in
+    let s = sheet-stands _ (c .before .pre .sheet) in
     omega arith
 
 word-at-requires : tie.Need-word-at-requires
 word-at-requires c κs =
-    let s = sheet-stands _ (c .before .pre .0) in
+    let s = sheet-stands _ (c .before .pre .sheet) in
     omega arith
 
 cast-index : tie.Need-cast-index
@@ -32,7 +32,7 @@ add-word-at c = search needs
 
 word-at-requires-2 : tie.Need-word-at-requires-2
 unfolding trailer
-word-at-requires-2 c κs = omega (arith, entry-within _ (c .before .before .pre .0) _ (c .before .before .pre .1))
+word-at-requires-2 c κs = omega (arith, entry-within (c .before .before .pre))
 
 cast-result : tie.Need-cast-result
 cast-result c = search needs

@@ -8,17 +8,17 @@ use Rattle.sheet.proofs.successor.Statement.{statement}
 use Rattle.sheet.proofs.successor.Tie as tie
 
 offer-of-requires : tie.Need-offer-of-requires
-offer-of-requires c κs = search needs
+offer-of-requires c κs = c .before .pre .at
 
 successor-in-requires : tie.Need-successor-in-requires
 successor-in-requires c κs =
     let pre = c .before .before .pre in
-    (omega arith, successor-within _ (pre .0) _ (pre .1) _ (pre .2) (pre .3) (c .offer-of .ensures))
+    (omega (arith, pre .action), successor-within pre (c .offer-of .ensures))
 
 returns : tie.Need-returns
 returns c =
     let pre = c .before .before .before .pre in
-    c .successor-in .ensures ∙ successor-stands _ (pre .0) _ (pre .1) _ (pre .2) (pre .3) (c .before .offer-of .ensures)
+    c .successor-in .ensures ∙ successor-stands pre (c .before .offer-of .ensures)
 
 pub successor-spec : {M : Type 1} → statement M
 successor-spec = tie.close (tie.spec offer-of-requires successor-in-requires returns)

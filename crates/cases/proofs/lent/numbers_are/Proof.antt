@@ -8,7 +8,7 @@ use lib.ListN.{length, drop}
 use borrow.Author.Tests.{eq-eqb, ne-eqb}
 use borrow.Author.Needs.{needs}
 use Rattle.model.specs.Lists.{all}
-use Rattle.model.proofs.Walk.{all-refuted, all-onward, all-ended}
+use Rattle.model.proofs.Loops.{all-decides, decided, onward, ended}
 use Rattle.cases.proofs.lent.numbers_are.Statement.{statement}
 use Rattle.cases.proofs.lent.numbers_are.Tie as tie
 
@@ -30,7 +30,7 @@ shared-slice-read-if1 c = search needs
 returns : tie.Need-returns Inv-loop μ-loop
 returns c =
     let at = c .before .before .before .loop in
-    all-refuted _ _ (at .i) 0 (omega arith) refl refl (at .inv .1) (ne-eqb _ _ (λ e. c .if1 .taken (sym e)))
+    decided (all-decides _) _ (at .i) (at .inv .1) 0 (omega arith) refl refl (ne-eqb _ _ (λ e. c .if1 .taken (sym e)))
 
 add-i : tie.Need-add-i Inv-loop μ-loop
 add-i c = search needs
@@ -41,10 +41,10 @@ loop-less c = search needs
 loop-again : tie.Need-loop-again Inv-loop μ-loop
 loop-again c =
     let at = c .before .before .before .loop in
-    (omega arith, all-onward _ _ (at .i) 0 (omega arith) refl refl (at .inv .1) (eq-eqb _ _ (sym (c .if1 .left))))
+    (omega arith, onward (all-decides _) _ (at .i) (at .inv .1) 0 (omega arith) refl refl (eq-eqb _ _ (sym (c .if1 .left))))
 
 returns-2 : tie.Need-returns-2 Inv-loop μ-loop
-returns-2 c = all-ended _ _ (c .before .loop .i) (c .before .loop .inv .1) (omega arith)
+returns-2 c = ended (all-decides _) _ (c .before .loop .i) (c .before .loop .inv .1) (omega arith)
 
 pub numbers-are-spec : {M : Type 1} → statement M
 numbers-are-spec =

@@ -3,12 +3,12 @@
 use Prim.Native.Nat.{_≤_, _-_}
 use lib.ListN.{length}
 use borrow.Author.Needs.{needs}
-use Rattle.cases.specs.Run.{At}
+use Rattle.sheet.specs.Whole.{IsState}
 use Rattle.cases.proofs.runs.followed.Statement.{statement}
 use Rattle.cases.proofs.runs.followed.Tie as tie
 
 abbrev Inv-loop : tie.InvT-loop
-Inv-loop client service plan attempts run₀ at₀ run at = (at ≤ length attempts) × At client (run .client) × At service (run .service)
+Inv-loop client service plan attempts run₀ at₀ run at = (at ≤ length attempts) × IsState client (run .client) × IsState service (run .service)
 
 abbrev μ-loop : tie.MeasureT-loop
 μ-loop client service plan attempts run₀ at₀ run at = length attempts - at

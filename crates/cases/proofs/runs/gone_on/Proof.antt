@@ -1,8 +1,7 @@
--- `cases::runs::gone_on` is safe, and a successor is a state: `successor-below`.
+-- `cases::runs::gone_on` is safe, and a successor is a state: `successor-state`.
 -- Assumes nothing.
 use mathlib.Core.Path.{sym, _∙_}
-use native.Mathlib.Omega.{arith}
-use Rattle.sheet.proofs.Whole.{successor-below}
+use Rattle.sheet.proofs.Whole.{successor-state}
 use borrow.Author.Needs.{needs}
 use Rattle.cases.proofs.runs.gone_on.Statement.{statement}
 use Rattle.cases.proofs.runs.gone_on.Tie as tie
@@ -13,12 +12,12 @@ offers-action-requires c κs = search needs
 successor-requires : tie.Need-successor-requires
 successor-requires c κs =
     let given = c .before .before .before .pre in
-    (given .0 .whole, given .0 .below, given .1, sym (c .before .offers-action .ensures) ∙ c .if1 .taken)
+    record { at = given .0; action = given .1; offered = sym (c .before .offers-action .ensures) ∙ c .if1 .taken }
 
 returns : tie.Need-returns
 returns c =
     let given = c .before .before .before .before .pre in
-    record { whole = given .0 .whole; below = omega (arith, c .successor .ensures, successor-below _ (given .0 .whole) _ (given .0 .below) _ (given .1) (sym (c .before .before .offers-action .ensures) ∙ c .before .if1 .taken)) }
+    successor-state (record { at = given .0; action = given .1; offered = sym (c .before .before .offers-action .ensures) ∙ c .before .if1 .taken }) (c .successor .ensures)
 
 returns-2 : tie.Need-returns-2
 returns-2 c = search needs

@@ -1,24 +1,20 @@
 -- `cases::runs::is_ready` meets its contract. The loop's invariant: no ready set before place i is the mask, so the rest decides.
 -- Assumes nothing.
-use mathlib.Core.Path.{_≡_, refl, sym}
-use Prim.Native.Nat.{_≤_, _-_}
+use mathlib.Core.Path.{refl, sym}
+use Prim.Native.Nat.{_-_}
 use native.Mathlib.Omega.{arith}
 use lib.Dec.{eqb}
-use lib.ListN.{length, drop}
 use borrow.Author.Tests.{eq-eqb, ne-eqb}
 use borrow.Author.Needs.{needs}
 use Rattle.model.specs.Lists.{any}
-use Rattle.model.specs.Contract.{state}
-use Rattle.model.specs.Sheet.{contractIn}
 use Rattle.model.specs.Test.{listed}
-use Rattle.model.proofs.Walk.{any-found, any-onward, any-ended}
+use Rattle.model.proofs.Loops.{any-decides}
+use Rattle.sheet.proofs.ReadySets.{ReadySets, sets-begin, sets-within, sets-decided, sets-onward, sets-ended}
 use Rattle.cases.proofs.runs.is_ready.Statement.{statement}
 use Rattle.cases.proofs.runs.is_ready.Tie as tie
 
 abbrev Inv-loop : tie.InvT-loop
-Inv-loop b q mask count i₀ i =
-    let ready = state (contractIn b) q .ready in
-    (i ≤ count) × (count ≡ length ready) × (any (eqb mask) (drop i ready) ≡ any (eqb mask) ready)
+Inv-loop b q mask count i₀ i = ReadySets b q (any (eqb mask)) count i
 
 abbrev μ-loop : tie.MeasureT-loop
 μ-loop b q mask count i₀ i = count - i
@@ -27,18 +23,18 @@ ready-count-requires : tie.Need-ready-count-requires Inv-loop μ-loop
 ready-count-requires c κs = search needs
 
 loop-holds : tie.Need-loop-holds Inv-loop μ-loop
-loop-holds c = (omega arith, c .ready-count .ensures, refl)
+loop-holds c = sets-begin (c .ready-count .ensures)
 
 ready-set-requires : tie.Need-ready-set-requires Inv-loop μ-loop
 ready-set-requires c κs =
     let given = c .before .before .before .before .pre in
-    (given .whole, given .below, omega arith)
+    (given, sets-within (c .before .loop .inv) (omega arith))
 
 returns : tie.Need-returns Inv-loop μ-loop
 unfolding listed
 returns c =
     let inv = c .before .before .before .loop .inv in
-    any-found _ _ _ _ (omega arith) (c .before .ready-set .ensures) refl (inv .2) (eq-eqb _ _ (sym (c .if1 .taken)))
+    sets-decided inv (any-decides _) (omega arith) (c .before .ready-set .ensures) refl (eq-eqb _ _ (sym (c .if1 .taken)))
 
 add-i : tie.Need-add-i Inv-loop μ-loop
 add-i c = search needs
@@ -49,11 +45,11 @@ loop-less c = search needs
 loop-again : tie.Need-loop-again Inv-loop μ-loop
 loop-again c =
     let inv = c .before .before .before .loop .inv in
-    (omega arith, inv .1, any-onward _ _ _ _ (omega arith) (c .before .ready-set .ensures) refl (inv .2) (ne-eqb _ _ (λ e. c .if1 .left (sym e))))
+    sets-onward inv (any-decides _) (omega arith) (c .before .ready-set .ensures) refl (ne-eqb _ _ (λ e. c .if1 .left (sym e)))
 
 returns-2 : tie.Need-returns-2 Inv-loop μ-loop
 unfolding listed
-returns-2 c = any-ended _ _ (c .before .loop .i) (c .before .loop .inv .2) (omega arith)
+returns-2 c = sets-ended (c .before .loop .inv) (any-decides _) (omega arith)
 
 pub is-ready-spec : {M : Type 1} → statement M
 is-ready-spec =

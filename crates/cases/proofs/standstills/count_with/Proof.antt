@@ -26,7 +26,7 @@ loop-holds c = search needs
 ready-set-requires : tie.Need-ready-set-requires Inv-loop μ-loop
 ready-set-requires c κs =
     let given = c .before .before .before .before .before .pre in
-    (given .whole, given .below, omega arith)
+    (given, omega arith)
 
 is-standstill-requires : tie.Need-is-standstill-requires Inv-loop μ-loop
 is-standstill-requires c κs = search needs

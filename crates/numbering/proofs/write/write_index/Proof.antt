@@ -20,7 +20,7 @@ use Rattle.plan.proofs.calls.WritePutDword.{calls-put-dword, put-dword-contract
 use Rattle.plan.proofs.write.put_dword.Symbol as put-dword-def
 use Rattle.plan.proofs.write.put_dword.Symbol.{name as #plan·write·put-dword}
 use Rattle.plan.proofs.write.put_dword.Met as put-dword-thm
-use Rattle.plan.specs.Front.{front}
+use Rattle.little_endian.specs.Front.{front}
 use Rattle.numbering.proofs.calls.WriteRowLengthAt.{calls-row-length-at, row-length-at-contract}
 use Rattle.numbering.proofs.write.row_length_at.Symbol as row-length-at-def
 use Rattle.numbering.proofs.write.row_length_at.Symbol.{name as #numbering·write·row-length-at}

@@ -32,7 +32,7 @@ use Rattle.plan.proofs.calls.WritePutByte.{calls-put-byte, put-byte-contract}
 use Rattle.plan.proofs.write.put_byte.Symbol as put-byte-def
 use Rattle.plan.proofs.write.put_byte.Symbol.{name as #plan·write·put-byte}
 use Rattle.plan.proofs.write.put_byte.Met as put-byte-thm
-use Rattle.plan.specs.Front.{front}
+use Rattle.little_endian.specs.Front.{front, Wrote}
 use Rattle.keys.proofs.calls.Lowest.{calls-lowest, lowest-contract}
 use Rattle.keys.proofs.lowest.Symbol as lowest-def
 use Rattle.keys.proofs.lowest.Symbol.{name as #keys·lowest}
@@ -55,7 +55,7 @@ use Rattle.keys.proofs.without_lowest.Symbol as without-lowest-def
 use Rattle.keys.proofs.without_lowest.Symbol.{name as #keys·without-lowest}
 use Rattle.keys.proofs.without_lowest.Met as without-lowest-thm
 use Rattle.numbering.proofs.records.Row.{WritingRow, count-room, count-small, link-named, move-needs, move-small, row-ends, row-nearer, row-on, row-starts, row-there, row-within, slot-small, target-there}
-use Rattle.numbering.specs.Writing.{RowToWrite, Wrote}
+use Rattle.numbering.specs.Writing.{RowToWrite}
 use Rattle.numbering.specs.Table.{rowAt}
 use Rattle.table.proofs.Record as Record-row
 use Rattle.table.proofs.Record.Laws as Record-laws

@@ -28,14 +28,14 @@ sub-n c = search needs
 shared-slice-read-n : tie.Need-shared-slice-read-n
 shared-slice-read-n c = search needs
 
-sub-good-trailer : tie.Need-sub-good-trailer
-sub-good-trailer c = search needs
+sub-figures-in-range : tie.Need-sub-figures-in-range
+sub-figures-in-range c = search needs
 
-shared-slice-read-good-trailer : tie.Need-shared-slice-read-good-trailer
-shared-slice-read-good-trailer c = search needs
+shared-slice-read-figures-in-range : tie.Need-shared-slice-read-figures-in-range
+shared-slice-read-figures-in-range c = search needs
 
-good-trailer-requires : tie.Need-good-trailer-requires
-good-trailer-requires c κs = search needs
+figures-in-range-requires : tie.Need-figures-in-range-requires
+figures-in-range-requires c κs = search needs
 
 cast-if3 : tie.Need-cast-if3
 cast-if3 c = search needs
@@ -58,21 +58,21 @@ returns-2 c =
     c .good-rows .ensures
     ∙ plan-rows _ (c .before .before .before .before .before .before .before .before .if1 .left) _ _ _ _
     (c .before .before .before .before .before .before .before .dword-at .ensures) (c .before .before .before .before .before .before .word-at .ensures) refl refl
-    (sym (c .before .before .before .good-trailer .ensures) ∙ c .before .before .if2 .taken) (c .before .if3 .taken)
+    (sym (c .before .before .before .figures-in-range .ensures) ∙ c .before .before .if2 .taken) (c .before .if3 .taken)
 
 returns-3 : tie.Need-returns-3
 unfolding byte
 returns-3 c =
     plan-index _ (c .before .before .before .before .before .before .before .if1 .left) _ _ _ _
     (c .before .before .before .before .before .before .dword-at .ensures) (c .before .before .before .before .before .word-at .ensures) refl refl
-    (sym (c .before .before .good-trailer .ensures) ∙ c .before .if2 .taken) (c .if3 .left)
+    (sym (c .before .before .figures-in-range .ensures) ∙ c .before .if2 .taken) (c .if3 .left)
 
 returns-4 : tie.Need-returns-4
 unfolding byte
 returns-4 c =
     plan-trailer _ (c .before .before .before .before .before .before .if1 .left) _ _ _ _
     (c .before .before .before .before .before .dword-at .ensures) (c .before .before .before .before .word-at .ensures) refl refl
-    (sym (c .before .good-trailer .ensures) ∙ c .if2 .left)
+    (sym (c .before .figures-in-range .ensures) ∙ c .if2 .left)
 
 pub is-plan-spec : {M : Type 1} → statement M
 is-plan-spec =
@@ -85,9 +85,9 @@ is-plan-spec =
     word-at-requires
     sub-n
     shared-slice-read-n
-    sub-good-trailer
-    shared-slice-read-good-trailer
-    good-trailer-requires
+    sub-figures-in-range
+    shared-slice-read-figures-in-range
+    figures-in-range-requires
     cast-if3
     mul-if3
     add-if3

@@ -4,7 +4,7 @@ use mathlib.Core.Path.{refl}
 use native.Mathlib.Omega.{arith}
 use Rattle.model.specs.Bytes.{le16}
 use Rattle.model.specs.Plan.{moveBytes}
-use Rattle.plan.proofs.Front.{front-then}
+use Rattle.little_endian.proofs.Front.{front-then}
 use borrow.Author.Needs.{needs}
 use Rattle.plan.proofs.write.put_move.Statement.{statement}
 use Rattle.plan.proofs.write.put_move.Tie as tie

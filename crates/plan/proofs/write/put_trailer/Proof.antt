@@ -3,7 +3,7 @@
 use mathlib.Core.Path.{refl}
 use native.Mathlib.Omega.{arith}
 use Rattle.model.specs.Bytes.{le16, le32}
-use Rattle.plan.proofs.Front.{front-then}
+use Rattle.little_endian.proofs.Front.{front-then}
 use borrow.Author.Needs.{needs}
 use Rattle.plan.proofs.write.put_trailer.Statement.{statement}
 use Rattle.plan.proofs.write.put_trailer.Tie as tie

@@ -4,7 +4,7 @@ use mathlib.Core.Path.{_≡_, refl, sym, _∙_}
 use Prim.Native.Nat.{_+_, _≤_}
 use native.Mathlib.Omega.{arith}
 use Rattle.model.specs.Sheet.{statesFrom}
-use Rattle.sheet.specs.Answers.{trailerOf, checkedOf}
+use Rattle.sheet.specs.Answers.{trailerOf, findingOf}
 use Rattle.sheet.proofs.Whole.{trailer-stands}
 use Rattle.sheet.proofs.RowAnswers.{row-inside}
 use Rattle.sheet.proofs.SheetAnswers.{states-gap, states-whole, states-entry, states-fault, states-more}
@@ -13,7 +13,7 @@ use Rattle.sheet.proofs.parts.check_states.Tie as tie
 
 abbrev Inv-loop : tie.InvT-loop
 Inv-loop b t index left₀ q₀ at₀ left q at =
-    (checkedOf (statesFrom b (trailerOf t) (t .count) 0 0) ≡ checkedOf (statesFrom b (trailerOf t) left q at)) ×
+    (findingOf (statesFrom b (trailerOf t) (t .count) 0 0) ≡ findingOf (statesFrom b (trailerOf t) left q at)) ×
     (q + left ≡ t .count) × (at ≤ t .index)
 
 abbrev μ-loop : tie.MeasureT-loop

@@ -5,14 +5,14 @@ use Prim.Native.Nat.{_+_}
 use native.Mathlib.Omega.{arith}
 use Rattle.model.specs.Bytes.{byte}
 use Rattle.model.specs.Sheet.{successorsFrom}
-use Rattle.sheet.specs.Answers.{trailerOf, checkedOf}
+use Rattle.sheet.specs.Answers.{trailerOf, findingOf}
 use Rattle.sheet.proofs.RowAnswers.{successors-none, successors-fault, successors-more}
 use Rattle.sheet.proofs.parts.check_successors.Statement.{statement}
 use Rattle.sheet.proofs.parts.check_successors.Tie as tie
 
 abbrev Inv-loop : tie.InvT-loop
 Inv-loop b t q count at left₀ i₀ left i =
-    (checkedOf (successorsFrom b (trailerOf t) q count at) ≡ checkedOf (successorsFrom b (trailerOf t) q left i)) ×
+    (findingOf (successorsFrom b (trailerOf t) q count at) ≡ findingOf (successorsFrom b (trailerOf t) q left i)) ×
     (i + left ≡ at + count)
 
 abbrev μ-loop : tie.MeasureT-loop

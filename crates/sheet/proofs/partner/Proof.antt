@@ -1,11 +1,11 @@
--- `cases::runs::partner` meets its contract: the actions that take a name come first.
+-- `sheet::partner` meets its contract: the actions that take a name come first.
 -- Assumes nothing.
 use mathlib.Core.Path.{sym}
 use native.Mathlib.Omega.{arith}
 use borrow.Author.Needs.{needs}
-use Rattle.comply.proofs.Masks.{partner-taken, partner-sent}
-use Rattle.cases.proofs.runs.partner.Statement.{statement}
-use Rattle.cases.proofs.runs.partner.Tie as tie
+use Rattle.model.proofs.Actions.{partner-taken, partner-sent}
+use Rattle.sheet.proofs.partner.Statement.{statement}
+use Rattle.sheet.proofs.partner.Tie as tie
 
 add-result : tie.Need-add-result
 add-result c = search needs

@@ -7,7 +7,7 @@ use native.Mathlib.Omega.{arith}
 use lib.ListN.{length, set, take, drop, length-append, length-drop, drop-of-length-le}
 use lib.Seq.{take-at, drop-at, drop-drop, take-all}
 use borrow.Rule.Slice.PartMut.{putMid, midOf}
-use Rattle.plan.specs.Front.{front}
+use Rattle.little_endian.specs.Front.{front}
 
 pub length-front : (w xs : List ℕ) → length w ≤ length xs → length (front w xs) ≡ length xs
 unfolding front

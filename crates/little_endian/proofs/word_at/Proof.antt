@@ -1,11 +1,11 @@
--- `plan::read::word_at` meets its contract: two bytes, the lower first; each is below 256.
+-- `little_endian::word_at` meets its contract: two bytes, the lower first; each is below 256.
 -- Assumes nothing.
 use Prim.Native.Nat.{_+_}
 use native.Mathlib.Omega.{arith}
 use Rattle.model.specs.Bytes.{byte, word}
 use borrow.Author.Needs.{needs}
-use Rattle.plan.proofs.read.word_at.Statement.{statement}
-use Rattle.plan.proofs.read.word_at.Tie as tie
+use Rattle.little_endian.proofs.word_at.Statement.{statement}
+use Rattle.little_endian.proofs.word_at.Tie as tie
 
 shared-slice-read-result : tie.Need-shared-slice-read-result
 shared-slice-read-result c = search needs

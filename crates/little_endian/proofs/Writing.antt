@@ -6,10 +6,9 @@ use mathlib.Core.List.{List, [], _++_}
 use Prim.Native.Nat.{ℕ, _+_, _-_, _≤_}
 use native.Mathlib.Omega.{arith}
 use lib.ListN.{length, length-append, length-take, length-drop}
-use Rattle.plan.specs.Front.{front}
-use Rattle.plan.proofs.Front.{length-front, front-then}
+use Rattle.little_endian.specs.Front.{front, Wrote}
+use Rattle.little_endian.proofs.Front.{length-front, front-then}
 use Rattle.walks.proofs.Rest.{restOf, withRest}
-use Rattle.numbering.specs.Writing.{Wrote}
 
 pub wrote-none : (xs : List ℕ) → Wrote [] 0 xs xs
 unfolding front

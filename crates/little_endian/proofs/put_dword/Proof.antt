@@ -1,16 +1,16 @@
--- `plan::write::put_dword` meets its contract: the lower half, and the upper half behind it.
+-- `little_endian::put_dword` meets its contract: the lower half, and the upper half behind it.
 -- Assumes nothing.
 use mathlib.Core.Path.{refl, ap, _∙_}
 use mathlib.Core.List.{List}
 use Prim.Native.Nat.{ℕ}
 use native.Mathlib.Omega.{arith}
 use Rattle.model.specs.Bytes.{le16, le32}
-use Rattle.plan.specs.Front.{front}
-use Rattle.plan.proofs.Front.{front-then}
-use Rattle.plan.proofs.Written.{low-half}
+use Rattle.little_endian.specs.Front.{front}
+use Rattle.little_endian.proofs.Front.{front-then}
+use Rattle.little_endian.proofs.Halves.{low-half}
 use borrow.Author.Needs.{needs}
-use Rattle.plan.proofs.write.put_dword.Statement.{statement}
-use Rattle.plan.proofs.write.put_dword.Tie as tie
+use Rattle.little_endian.proofs.put_dword.Statement.{statement}
+use Rattle.little_endian.proofs.put_dword.Tie as tie
 
 cast-put-word : tie.Need-cast-put-word
 cast-put-word c = search needs

@@ -1,9 +1,9 @@
--- `plan::write::put_byte` meets its contract: one byte is stored.
+-- `little_endian::put_byte` meets its contract: one byte is stored.
 -- Assumes nothing.
-use Rattle.plan.proofs.Front.{put-one}
+use Rattle.little_endian.proofs.Front.{put-one}
 use borrow.Author.Needs.{needs}
-use Rattle.plan.proofs.write.put_byte.Statement.{statement}
-use Rattle.plan.proofs.write.put_byte.Tie as tie
+use Rattle.little_endian.proofs.put_byte.Statement.{statement}
+use Rattle.little_endian.proofs.put_byte.Tie as tie
 
 slice-write-out : tie.Need-slice-write-out
 slice-write-out c = search needs

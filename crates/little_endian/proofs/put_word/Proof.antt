@@ -1,10 +1,10 @@
--- `plan::write::put_word` meets its contract: two bytes are stored, the lower first.
+-- `little_endian::put_word` meets its contract: two bytes are stored, the lower first.
 -- Assumes nothing.
 use Rattle.model.specs.Bytes.{le16}
-use Rattle.plan.proofs.Front.{put-two}
+use Rattle.little_endian.proofs.Front.{put-two}
 use borrow.Author.Needs.{needs}
-use Rattle.plan.proofs.write.put_word.Statement.{statement}
-use Rattle.plan.proofs.write.put_word.Tie as tie
+use Rattle.little_endian.proofs.put_word.Statement.{statement}
+use Rattle.little_endian.proofs.put_word.Tie as tie
 
 cast-out : tie.Need-cast-out
 cast-out c = search needs

@@ -4,7 +4,7 @@ each as a 16-bit length and that many bytes."""
 from typing import NamedTuple
 
 
-class Record(NamedTuple):
+class Framed(NamedTuple):
     """A case: what it is about, and its bytes."""
 
     label: str
@@ -20,8 +20,8 @@ def measured(data):
     return number_bytes(len(data)) + data
 
 
-def packed(records):
-    return b"".join(measured(record.data) for record in records)
+def packed(cases):
+    return b"".join(measured(case.data) for case in cases)
 
 
 DIGEST_BASE, DIGEST_PRIME = 257, 4294967291

@@ -1,10 +1,10 @@
--- `plan::read::dword_at` meets its contract: two 16-bit numbers, the lower first.
+-- `little_endian::dword_at` meets its contract: two 16-bit numbers, the lower first.
 -- Assumes nothing.
 use native.Mathlib.Omega.{arith}
 use Rattle.model.specs.Bytes.{dword}
 use borrow.Author.Needs.{needs}
-use Rattle.plan.proofs.read.dword_at.Statement.{statement}
-use Rattle.plan.proofs.read.dword_at.Tie as tie
+use Rattle.little_endian.proofs.dword_at.Statement.{statement}
+use Rattle.little_endian.proofs.dword_at.Tie as tie
 
 word-at-requires : tie.Need-word-at-requires
 word-at-requires c κs = search needs
