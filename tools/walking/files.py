@@ -51,6 +51,8 @@ def standing(crate):
 
 def formatted(texts):
     """Texts as `rt fmt` leaves them."""
+    if not texts:
+        return {}
     with tempfile.TemporaryDirectory() as folder:
         for file, text in texts.items():
             (folder / file).parent.mkdir(parents=True, exist_ok=True)
