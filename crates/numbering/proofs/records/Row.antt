@@ -16,7 +16,7 @@ use Rattle.walks.proofs.Rest.{restOf, withRest}
 use Rattle.table.specs.declared.Record.{Record}
 use Rattle.table.specs.Records.{blank}
 use Rattle.table.specs.Lists.{slotsOf, linksOf, presentOf, marksOf, numbersOf}
-use Rattle.table.proofs.Lists.{numbers-length, numbers-at}
+use Rattle.table.proofs.Lists.{numbers-at}
 use Rattle.numbering.specs.Table.{statesAt, rowAt}
 use Rattle.numbering.specs.Writing.{Wrote, RowToWrite}
 use Rattle.numbering.proofs.lists.Kept.{SettledLists, all-left}
