@@ -17,7 +17,7 @@ pub fn wide(states: u16) -> usize
     states as usize
 }
 
-// The length of rows as an offset in the plan.
+// The length of rows as an offset in the plan: 4,096 rows of 127 bytes at most.
 pub fn offset_of(rows: usize) -> u32
     requires { ⌜ rows ≤ 520192 ⌝ }
     ensures { λ r. ⌜ r ≡ rows ⌝ }

@@ -32,7 +32,8 @@ index-one i [] row = append-nil (le32 i) ∙ ap le32 (omega arith)
 index-one i (first ∷ rows) row =
     ap (λ (w : List ℕ). le32 i ++ w)
     (index-one (i + length (rowBytes first)) rows row
-    ∙ ap (λ (n : ℕ). indexBytes (i + length (rowBytes first)) rows ++ le32 n) (omega (arith, length-append (rowBytes first) (rowsBytes rows))))
+    ∙ ap (λ (n : ℕ). indexBytes (i + length (rowBytes first)) rows ++ le32 n)
+    (omega (arith, length-append (rowBytes first) (rowsBytes rows))))
     ∙ sym (append-assoc (le32 i) (indexBytes (i + length (rowBytes first)) rows) (le32 (i + length (rowBytes first ++ rowsBytes rows))))
 
 -- the first rows have no more bytes than all

@@ -1,6 +1,6 @@
 -- The row of a state by its record: each slot that is left names a record by its link, whose number gives the next state.
 -- Assumes nothing.
-use mathlib.Core.Path.{_≡_, sym, ap, subst, _∙_}
+use mathlib.Core.Path.{_≡_, sym, ap, ap₂, subst, _∙_}
 use mathlib.Core.List.{List, [], _∷_}
 use Prim.Native.Nat.{ℕ, _+_, _*_, _-_, _≤_, _<_}
 use native.Mathlib.Omega.{arith}
@@ -16,7 +16,7 @@ use Rattle.walks.proofs.Rest.{restOf, withRest}
 use Rattle.table.specs.declared.Record.{Record}
 use Rattle.table.specs.Records.{blank}
 use Rattle.table.specs.Lists.{slotsOf, linksOf, presentOf, marksOf, numbersOf}
-use Rattle.table.proofs.Lists.{numbers-length, numbers-at}
+use Rattle.table.proofs.Lists.{numbers-at}
 use Rattle.numbering.specs.Table.{statesAt, rowAt}
 use Rattle.numbering.specs.Writing.{RowToWrite}
 use Rattle.numbering.proofs.lists.Kept.{SettledLists, all-left}
@@ -124,11 +124,10 @@ module _ {count i : ℕ} (work : List Record) {first : List ℕ} (writing : RowT
                 → rest′ ≡ bitAnd rest (rest - 1) → WritingRow count i work first (withRest at out zs) (at + 3) rest′
             unfolding moveBy statesAt
             row-on {zs} e r =
+                let slot-found : ℕ = trailingZeros 64 rest in
+                let moved : ℕ → ℕ → List ℕ = λ s m. front (moveBytes (record { code = codeAt s; to = m - 1 } ∷ [])) (restOf at out) in
                 record {
-                  from = trailingZeros 64 rest + 1;
-                  left = subst (λ (m : ℕ). Left (slotsIn (presentOf work) i) m (trailingZeros 64 rest + 1)) (sym r) (left-next (on .left) some);
-                  moves = row-next lists (writing .state) (on .left) (on .moves) (writing .numbers) some
-                      (e ∙ ap (λ (s : ℕ). front (moveBytes (record { code = codeAt s; to = z .number - 1 } ∷ [])) (restOf at out)) slot-is
-                      ∙ ap (λ (m : ℕ). front (moveBytes (record { code = codeAt (trailingZeros 64 rest); to = m - 1 } ∷ [])) (restOf at out))
-                      number-is);
+                  from = slot-found + 1;
+                  left = subst (λ (m : ℕ). Left (slotsIn (presentOf work) i) m (slot-found + 1)) (sym r) (left-next (on .left) some);
+                  moves = row-next lists (writing .state) (on .left) (on .moves) (writing .numbers) some (e ∙ ap₂ moved slot-is number-is);
                 }
