@@ -1,3 +1,4 @@
 pub mod Front
 pub mod Writing
 pub mod Halves
+pub mod calls

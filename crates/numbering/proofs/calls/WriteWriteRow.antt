@@ -4,8 +4,8 @@
 use Rattle.walks.proofs.Logic.{_≡_, refl, sym, ap, subst, ℕ, _<_, _^_, List, [], _∷_, length, URA, Place, Operand, Body, seq, call, named, w64, Val, vint, SProp, ent, id⊢, Lft, Share, ftrue, flft, Memory, Routine, Heap, Env, Calls, Loops, Atoms, Fun, fact, Given, Goal, Soaks, Item, Go, Sq, Post, runs, lands, settles, ‵, raw, _⊛_, some, later, ⋆, _$_, _∵_, !, qed, cut, move, drop, use1, split, join, pick, fsplit, fjoin, feqL, await, done, Opds, FmC, Is, shows, RefT, MutSlice, ShrSlice, finally, uint-makes, uint-tells, u8, usize, only, owned, heard, peeks, nothing, tripleOf, Contract, Triple, calls-at, calls-at-last, ensured, lasts, says}
 use Rattle.numbering.proofs.write.write_row as callee
 use Rattle.numbering.proofs.write.write_row.Symbol.{name as #numbering·write·write-row}
-use Rattle.little_endian.specs.Front.{Wrote}
 use Rattle.numbering.specs.Writing.{RowToWrite}
+use Rattle.little_endian.specs.Front.{Wrote}
 use Rattle.model.specs.Plan.{rowBytes}
 use Rattle.numbering.specs.Table.{rowAt}
 use Rattle.table.proofs.Record as Record-row

@@ -16,10 +16,10 @@ use Rattle.numbering.proofs.calls.WriteWide.{calls-wide, wide-contract}
 use Rattle.numbering.proofs.write.wide.Symbol as wide-def
 use Rattle.numbering.proofs.write.wide.Symbol.{name as #numbering·write·wide}
 use Rattle.numbering.proofs.write.wide.Met as wide-thm
-use Rattle.plan.proofs.calls.WritePutDword.{calls-put-dword, put-dword-contract}
-use Rattle.plan.proofs.write.put_dword.Symbol as put-dword-def
-use Rattle.plan.proofs.write.put_dword.Symbol.{name as #plan·write·put-dword}
-use Rattle.plan.proofs.write.put_dword.Met as put-dword-thm
+use Rattle.little_endian.proofs.calls.PutDword.{calls-put-dword, put-dword-contract}
+use Rattle.little_endian.proofs.put_dword.Symbol as put-dword-def
+use Rattle.little_endian.proofs.put_dword.Symbol.{name as #little-endian·put-dword}
+use Rattle.little_endian.proofs.put_dword.Met as put-dword-thm
 use Rattle.little_endian.specs.Front.{front}
 use Rattle.numbering.proofs.calls.WriteRowLengthAt.{calls-row-length-at, row-length-at-contract}
 use Rattle.numbering.proofs.write.row_length_at.Symbol as row-length-at-def
@@ -87,7 +87,7 @@ module _ {M : Type 1} (𝓤 : URA M) (H : Heap 𝓤) (A : Atoms 𝓤) (W : Given
   Nearer-wf : WellFounded Nearer
   Nearer-wf = InvImage·wf (λ (t : State). measure (t .0) (t .1 .0) (t .1 .1 .0) (t .1 .1 .1 .0)) (Nat·lt-wfRel .wf)
 
-  module _ (𝓣 : Tables 𝓤 H) (known-wide : Triple 𝓤 (𝓣 .C #numbering·write·wide) (wide-contract 𝓤 H A mem run)) (known-put-dword : Triple 𝓤 (𝓣 .C #plan·write·put-dword) (put-dword-contract 𝓤 H A mem run)) (known-row-length-at : Triple 𝓤 (𝓣 .C #numbering·write·row-length-at) (row-length-at-contract 𝓤 H A mem run)) where
+  module _ (𝓣 : Tables 𝓤 H) (known-wide : Triple 𝓤 (𝓣 .C #numbering·write·wide) (wide-contract 𝓤 H A mem run)) (known-put-dword : Triple 𝓤 (𝓣 .C #little-endian·put-dword) (put-dword-contract 𝓤 H A mem run)) (known-row-length-at : Triple 𝓤 (𝓣 .C #numbering·write·row-length-at) (row-length-at-contract 𝓤 H A mem run)) where
     module _ (l0 l1 l2 l3 l4 l5 l6 l7 l8 l9 l10 l11 l12 l13 l14 l15 : ℕ) where
       abbrev En : Env 𝓤 H
       En = (tyUnit, l0) ∷ (τ0, l1) ∷ ((tyInt w64), l2) ∷ ((tyInt w16), l3) ∷ (τ1, l4) ∷ ((tyInt w64), l5) ∷ ((tyInt w32), l6) ∷ ((tyInt w64), l7) ∷ ((tyInt w64), l8) ∷ (tyBool, l9) ∷ (tyUnit, l10) ∷ (tyPtr, l11) ∷ ((tyInt w64), l12) ∷ (τ2, l13) ∷ (τ3, l14) ∷ ((tyInt w32), l15) ∷ []
@@ -148,11 +148,11 @@ module _ {M : Type 1} (𝓤 : URA M) (H : Heap 𝓤) (A : Atoms 𝓤) (W : Given
         pass1 ! (init ! 28 refl (tt, (tt, (record { fits = room-work .0 }, tt)))) $ pass1 ! (init ! 26 refl (tt, record { fits = fits-count })) $ pass1 ! (init ! 24 refl (tt, record { fits = fits-states })) $ pass1 ! (init ! 22 refl (tt, (tt, (record { fits = room-out .0 }, tt)))) $ pass0 ! $ move ! (32 ∷ 33 ∷ 34 ∷ 35 ∷ []) $ part-1 l0 l1 l2 l3 l4 l5 l6 l7 l8 l9 l10 l11 l12 l13 l14 l15))))))))))))))))
 
 module _ {M : Type 1} (𝓤 : URA M) (H : Heap 𝓤) (A : Atoms 𝓤) (W : Given 𝓤 H A) (mem : Memory → SProp 𝓤) (run : Routine → Fun 𝓤) where
-  write-index-walks : (𝓣 : Tables 𝓤 H) → Triple 𝓤 (𝓣 .C #numbering·write·wide) (wide-contract 𝓤 H A mem run) → Triple 𝓤 (𝓣 .C #plan·write·put-dword) (put-dword-contract 𝓤 H A mem run) → Triple 𝓤 (𝓣 .C #numbering·write·row-length-at) (row-length-at-contract 𝓤 H A mem run) → Walks 𝓤 H A this.ended stayed (WpFn 𝓤 H (𝓣 .C) (𝓣 .Λ) this-code.function) (this.clauses 𝓤 H A mem run)
+  write-index-walks : (𝓣 : Tables 𝓤 H) → Triple 𝓤 (𝓣 .C #numbering·write·wide) (wide-contract 𝓤 H A mem run) → Triple 𝓤 (𝓣 .C #little-endian·put-dword) (put-dword-contract 𝓤 H A mem run) → Triple 𝓤 (𝓣 .C #numbering·write·row-length-at) (row-length-at-contract 𝓤 H A mem run) → Walks 𝓤 H A this.ended stayed (WpFn 𝓤 H (𝓣 .C) (𝓣 .Λ) this-code.function) (this.clauses 𝓤 H A mem run)
   write-index-walks 𝓣 known-wide known-put-dword known-row-length-at = walked 𝓤 H A this.ended stayed (this.clauses 𝓤 H A mem run) (WpFn 𝓤 H (𝓣 .C) (𝓣 .Λ) this-code.function)
       (λ κs. (slice-vals, (uint-vals w64, (uint-vals w16, (slice-vals, tt))))) (λ κs. (shr-slice-tells (named 0) (κs .0) Record-row.the-row, (uint-tells w64, (uint-tells w16, (mut-slice-tells (named 1) (κs .1 .0) u8, tt))))) (λ κs qs bounds a g are. needs 𝓤 (ToWrite (indexBytes 0 (rowsAt (a .1 .0) ((a .0 .now)))) (a .1 .0) (a .1 .1 .0) ((a .0 .now)) ((a .1 .1 .1 .0 .now))) _ (λ needed. walk 𝓤 H A W mem run (κs .0) (qs .0) (a .0 .ptr .0) (a .0 .ptr .1) (a .0 .name) (a .0 .now) (a .1 .0) (a .1 .1 .0) (κs .1 .0) (qs .1 .0) (a .1 .1 .1 .0 .ptr .0) (a .1 .1 .1 .0 .ptr .1) (a .1 .1 .1 .0 .name) (a .1 .1 .1 .0 .now) (are .0 .0 .1) (are .1 .0 .1) (are .1 .1 .0 .1) (are .1 .1 .1 .0 .0 .1) needed 𝓣 known-wide known-put-dword known-row-length-at))
 
-  write-index-meets : (𝓣 : Tables 𝓤 H) → Triple 𝓤 (𝓣 .C #numbering·write·wide) (wide-contract 𝓤 H A mem run) → Triple 𝓤 (𝓣 .C #plan·write·put-dword) (put-dword-contract 𝓤 H A mem run) → Triple 𝓤 (𝓣 .C #numbering·write·row-length-at) (row-length-at-contract 𝓤 H A mem run) → Meets 𝓤 H A this.signature (WpFn 𝓤 H (𝓣 .C) (𝓣 .Λ) this-code.function) (this.spec 𝓤 H A mem run)
+  write-index-meets : (𝓣 : Tables 𝓤 H) → Triple 𝓤 (𝓣 .C #numbering·write·wide) (wide-contract 𝓤 H A mem run) → Triple 𝓤 (𝓣 .C #little-endian·put-dword) (put-dword-contract 𝓤 H A mem run) → Triple 𝓤 (𝓣 .C #numbering·write·row-length-at) (row-length-at-contract 𝓤 H A mem run) → Meets 𝓤 H A this.signature (WpFn 𝓤 H (𝓣 .C) (𝓣 .Λ) this-code.function) (this.spec 𝓤 H A mem run)
   write-index-meets 𝓣 known-wide known-put-dword known-row-length-at = walk-meets 𝓤 H A this.ended stayed W (goes-none-slice 𝓤 H A W 2 (0 ∷ []) tt (plain (λ _. Record-row.the-row)) yes, (goes-none 𝓤 H A W 2 (λ _. usize) yes (λ κs x f. refl), (goes-none 𝓤 H A W 2 (λ _. u16) yes (λ κs x f. refl), (goes-slice 𝓤 H A W 2 1 tt (plain (λ _. u8)), tt)))) (this.clauses 𝓤 H A mem run)
       (WpFn 𝓤 H (𝓣 .C) (𝓣 .Λ) this-code.function) (WpFn-mono 𝓤 H (W .laws) 𝓣 this-code.function) (write-index-walks 𝓣 known-wide known-put-dword known-row-length-at)
 
@@ -163,5 +163,5 @@ write-index-spec 𝓤 H 𝓜 𝓖 𝓡 =
     (tables 𝓤 H 𝓜 𝓡 this-code.env .C) (tables 𝓤 H 𝓜 𝓡 this-code.env .Λ) #numbering·write·write-index this-code.function (this-code.unfolded 𝓤 H 𝓜 𝓡)
     (write-index-meets 𝓤 H (𝓖 .A) (givenOf 𝓤 H 𝓜 𝓖) (𝓜 .mem) (𝓡 .run) (tablesOf 𝓤 H 𝓜 (tables 𝓤 H 𝓜 𝓡 this-code.env))
     (cited 𝓤 H (wide-contract 𝓤 H (𝓖 .A) (𝓜 .mem) (𝓡 .run)) 𝓜 𝓡 this-code.env #numbering·write·wide wide-def.routine this-code.calls-numbering·write·wide (wide-thm.met 𝓤 H 𝓜 𝓖 𝓡))
-    (cited 𝓤 H (put-dword-contract 𝓤 H (𝓖 .A) (𝓜 .mem) (𝓡 .run)) 𝓜 𝓡 this-code.env #plan·write·put-dword put-dword-def.routine this-code.calls-plan·write·put-dword (put-dword-thm.met 𝓤 H 𝓜 𝓖 𝓡))
+    (cited 𝓤 H (put-dword-contract 𝓤 H (𝓖 .A) (𝓜 .mem) (𝓡 .run)) 𝓜 𝓡 this-code.env #little-endian·put-dword put-dword-def.routine this-code.calls-little-endian·put-dword (put-dword-thm.met 𝓤 H 𝓜 𝓖 𝓡))
     (cited 𝓤 H (row-length-at-contract 𝓤 H (𝓖 .A) (𝓜 .mem) (𝓡 .run)) 𝓜 𝓡 this-code.env #numbering·write·row-length-at row-length-at-def.routine this-code.calls-numbering·write·row-length-at (row-length-at-thm.met 𝓤 H 𝓜 𝓖 𝓡)))

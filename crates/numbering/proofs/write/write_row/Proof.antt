@@ -28,11 +28,11 @@ use Rattle.numbering.proofs.fields.moves_in.Symbol as moves-in-def
 use Rattle.numbering.proofs.fields.moves_in.Symbol.{name as #numbering·fields·moves-in}
 use Rattle.numbering.proofs.fields.moves_in.Met as moves-in-thm
 use lib.Count.{ones}
-use Rattle.plan.proofs.calls.WritePutByte.{calls-put-byte, put-byte-contract}
-use Rattle.plan.proofs.write.put_byte.Symbol as put-byte-def
-use Rattle.plan.proofs.write.put_byte.Symbol.{name as #plan·write·put-byte}
-use Rattle.plan.proofs.write.put_byte.Met as put-byte-thm
-use Rattle.little_endian.specs.Front.{front, Wrote}
+use Rattle.little_endian.proofs.calls.PutByte.{calls-put-byte, put-byte-contract}
+use Rattle.little_endian.proofs.put_byte.Symbol as put-byte-def
+use Rattle.little_endian.proofs.put_byte.Symbol.{name as #little-endian·put-byte}
+use Rattle.little_endian.proofs.put_byte.Met as put-byte-thm
+use Rattle.little_endian.specs.Front.{Wrote, front}
 use Rattle.keys.proofs.calls.Lowest.{calls-lowest, lowest-contract}
 use Rattle.keys.proofs.lowest.Symbol as lowest-def
 use Rattle.keys.proofs.lowest.Symbol.{name as #keys·lowest}
@@ -115,7 +115,7 @@ module _ {M : Type 1} (𝓤 : URA M) (H : Heap 𝓤) (A : Atoms 𝓤) (W : Given
   Nearer-wf : WellFounded Nearer
   Nearer-wf = InvImage·wf (λ (t : State). measure (t .0) (t .1 .0) (t .1 .1 .0)) (Nat·lt-wfRel .wf)
 
-  module _ (𝓣 : Tables 𝓤 H) (known-load : Triple 𝓤 (𝓣 .C #table·load) (load-contract 𝓤 H A mem run)) (known-slots-of : Triple 𝓤 (𝓣 .C #table·fields·slots-of) (slots-of-contract 𝓤 H A mem run)) (known-moves-in : Triple 𝓤 (𝓣 .C #numbering·fields·moves-in) (moves-in-contract 𝓤 H A mem run)) (known-put-byte : Triple 𝓤 (𝓣 .C #plan·write·put-byte) (put-byte-contract 𝓤 H A mem run)) (known-lowest : Triple 𝓤 (𝓣 .C #keys·lowest) (lowest-contract 𝓤 H A mem run)) (known-next-at : Triple 𝓤 (𝓣 .C #table·next-at) (next-at-contract 𝓤 H A mem run)) (known-place-of : Triple 𝓤 (𝓣 .C #table·fields·place-of) (place-of-contract 𝓤 H A mem run)) (known-write-move : Triple 𝓤 (𝓣 .C #numbering·write·write-move) (write-move-contract 𝓤 H A mem run)) (known-without-lowest : Triple 𝓤 (𝓣 .C #keys·without-lowest) (without-lowest-contract 𝓤 H A mem run)) where
+  module _ (𝓣 : Tables 𝓤 H) (known-load : Triple 𝓤 (𝓣 .C #table·load) (load-contract 𝓤 H A mem run)) (known-slots-of : Triple 𝓤 (𝓣 .C #table·fields·slots-of) (slots-of-contract 𝓤 H A mem run)) (known-moves-in : Triple 𝓤 (𝓣 .C #numbering·fields·moves-in) (moves-in-contract 𝓤 H A mem run)) (known-put-byte : Triple 𝓤 (𝓣 .C #little-endian·put-byte) (put-byte-contract 𝓤 H A mem run)) (known-lowest : Triple 𝓤 (𝓣 .C #keys·lowest) (lowest-contract 𝓤 H A mem run)) (known-next-at : Triple 𝓤 (𝓣 .C #table·next-at) (next-at-contract 𝓤 H A mem run)) (known-place-of : Triple 𝓤 (𝓣 .C #table·fields·place-of) (place-of-contract 𝓤 H A mem run)) (known-write-move : Triple 𝓤 (𝓣 .C #numbering·write·write-move) (write-move-contract 𝓤 H A mem run)) (known-without-lowest : Triple 𝓤 (𝓣 .C #keys·without-lowest) (without-lowest-contract 𝓤 H A mem run)) where
     module _ (l0 l1 l2 l3 l4 l5 l6 l7 l8 l9 l10 l11 l12 l13 l14 l15 l16 l17 l18 l19 l20 : ℕ) where
       abbrev En : Env 𝓤 H
       En = ((tyInt w64), l0) ∷ (τ0, l1) ∷ ((tyInt w64), l2) ∷ ((tyInt w64), l3) ∷ (τ1, l4) ∷ (Record-laws.mir, l5) ∷ ((tyInt w64), l6) ∷ ((tyInt w64), l7) ∷ ((tyInt w64), l8) ∷ ((tyInt w16), l9) ∷ (Record-laws.mir, l10) ∷ (tyUnit, l11) ∷ (τ2, l12) ∷ (τ3, l13) ∷ ((tyInt w8), l14) ∷ (tyBool, l15) ∷ ((tyInt w64), l16) ∷ (tyUnit, l17) ∷ (tyPtr, l18) ∷ (τ2, l19) ∷ (τ3, l20) ∷ []
@@ -202,11 +202,11 @@ module _ {M : Type 1} (𝓤 : URA M) (H : Heap 𝓤) (A : Atoms 𝓤) (W : Given
         pass1 ! (init ! 38 refl (tt, (tt, (record { fits = room-work .0 }, tt)))) $ pass1 ! (init ! 36 refl (tt, record { fits = fits-count })) $ pass1 ! (init ! 34 refl (tt, record { fits = fits-i })) $ pass1 ! (init ! 32 refl (tt, (tt, (record { fits = room-out .0 }, tt)))) $ pass0 ! $ move ! (42 ∷ 43 ∷ 44 ∷ 45 ∷ []) $ forget ! 40 refl $ part-1 l0 l1 l2 l3 l4 l5 l6 l7 l8 l9 l10 l11 l12 l13 l14 l15 l16 l17 l18 l19 l20)))))))))))))))))))))
 
 module _ {M : Type 1} (𝓤 : URA M) (H : Heap 𝓤) (A : Atoms 𝓤) (W : Given 𝓤 H A) (mem : Memory → SProp 𝓤) (run : Routine → Fun 𝓤) where
-  write-row-walks : (𝓣 : Tables 𝓤 H) → Triple 𝓤 (𝓣 .C #table·load) (load-contract 𝓤 H A mem run) → Triple 𝓤 (𝓣 .C #table·fields·slots-of) (slots-of-contract 𝓤 H A mem run) → Triple 𝓤 (𝓣 .C #numbering·fields·moves-in) (moves-in-contract 𝓤 H A mem run) → Triple 𝓤 (𝓣 .C #plan·write·put-byte) (put-byte-contract 𝓤 H A mem run) → Triple 𝓤 (𝓣 .C #keys·lowest) (lowest-contract 𝓤 H A mem run) → Triple 𝓤 (𝓣 .C #table·next-at) (next-at-contract 𝓤 H A mem run) → Triple 𝓤 (𝓣 .C #table·fields·place-of) (place-of-contract 𝓤 H A mem run) → Triple 𝓤 (𝓣 .C #numbering·write·write-move) (write-move-contract 𝓤 H A mem run) → Triple 𝓤 (𝓣 .C #keys·without-lowest) (without-lowest-contract 𝓤 H A mem run) → Walks 𝓤 H A this.ended stayed (WpFn 𝓤 H (𝓣 .C) (𝓣 .Λ) this-code.function) (this.clauses 𝓤 H A mem run)
+  write-row-walks : (𝓣 : Tables 𝓤 H) → Triple 𝓤 (𝓣 .C #table·load) (load-contract 𝓤 H A mem run) → Triple 𝓤 (𝓣 .C #table·fields·slots-of) (slots-of-contract 𝓤 H A mem run) → Triple 𝓤 (𝓣 .C #numbering·fields·moves-in) (moves-in-contract 𝓤 H A mem run) → Triple 𝓤 (𝓣 .C #little-endian·put-byte) (put-byte-contract 𝓤 H A mem run) → Triple 𝓤 (𝓣 .C #keys·lowest) (lowest-contract 𝓤 H A mem run) → Triple 𝓤 (𝓣 .C #table·next-at) (next-at-contract 𝓤 H A mem run) → Triple 𝓤 (𝓣 .C #table·fields·place-of) (place-of-contract 𝓤 H A mem run) → Triple 𝓤 (𝓣 .C #numbering·write·write-move) (write-move-contract 𝓤 H A mem run) → Triple 𝓤 (𝓣 .C #keys·without-lowest) (without-lowest-contract 𝓤 H A mem run) → Walks 𝓤 H A this.ended stayed (WpFn 𝓤 H (𝓣 .C) (𝓣 .Λ) this-code.function) (this.clauses 𝓤 H A mem run)
   write-row-walks 𝓣 known-load known-slots-of known-moves-in known-put-byte known-lowest known-next-at known-place-of known-write-move known-without-lowest = walked 𝓤 H A this.ended stayed (this.clauses 𝓤 H A mem run) (WpFn 𝓤 H (𝓣 .C) (𝓣 .Λ) this-code.function)
       (λ κs. (slice-vals, (uint-vals w64, (uint-vals w64, (slice-vals, tt))))) (λ κs. (shr-slice-tells (named 0) (κs .0) Record-row.the-row, (uint-tells w64, (uint-tells w64, (mut-slice-tells (named 1) (κs .1 .0) u8, tt))))) (λ κs qs bounds a g are. needs 𝓤 (RowToWrite (a .1 .0) (a .1 .1 .0) ((a .0 .now)) ((a .1 .1 .1 .0 .now))) _ (λ needed. walk 𝓤 H A W mem run (κs .0) (qs .0) (a .0 .ptr .0) (a .0 .ptr .1) (a .0 .name) (a .0 .now) (a .1 .0) (a .1 .1 .0) (κs .1 .0) (qs .1 .0) (a .1 .1 .1 .0 .ptr .0) (a .1 .1 .1 .0 .ptr .1) (a .1 .1 .1 .0 .name) (a .1 .1 .1 .0 .now) (are .0 .0 .1) (are .1 .0 .1) (are .1 .1 .0 .1) (are .1 .1 .1 .0 .0 .1) needed 𝓣 known-load known-slots-of known-moves-in known-put-byte known-lowest known-next-at known-place-of known-write-move known-without-lowest))
 
-  write-row-meets : (𝓣 : Tables 𝓤 H) → Triple 𝓤 (𝓣 .C #table·load) (load-contract 𝓤 H A mem run) → Triple 𝓤 (𝓣 .C #table·fields·slots-of) (slots-of-contract 𝓤 H A mem run) → Triple 𝓤 (𝓣 .C #numbering·fields·moves-in) (moves-in-contract 𝓤 H A mem run) → Triple 𝓤 (𝓣 .C #plan·write·put-byte) (put-byte-contract 𝓤 H A mem run) → Triple 𝓤 (𝓣 .C #keys·lowest) (lowest-contract 𝓤 H A mem run) → Triple 𝓤 (𝓣 .C #table·next-at) (next-at-contract 𝓤 H A mem run) → Triple 𝓤 (𝓣 .C #table·fields·place-of) (place-of-contract 𝓤 H A mem run) → Triple 𝓤 (𝓣 .C #numbering·write·write-move) (write-move-contract 𝓤 H A mem run) → Triple 𝓤 (𝓣 .C #keys·without-lowest) (without-lowest-contract 𝓤 H A mem run) → Meets 𝓤 H A this.signature (WpFn 𝓤 H (𝓣 .C) (𝓣 .Λ) this-code.function) (this.spec 𝓤 H A mem run)
+  write-row-meets : (𝓣 : Tables 𝓤 H) → Triple 𝓤 (𝓣 .C #table·load) (load-contract 𝓤 H A mem run) → Triple 𝓤 (𝓣 .C #table·fields·slots-of) (slots-of-contract 𝓤 H A mem run) → Triple 𝓤 (𝓣 .C #numbering·fields·moves-in) (moves-in-contract 𝓤 H A mem run) → Triple 𝓤 (𝓣 .C #little-endian·put-byte) (put-byte-contract 𝓤 H A mem run) → Triple 𝓤 (𝓣 .C #keys·lowest) (lowest-contract 𝓤 H A mem run) → Triple 𝓤 (𝓣 .C #table·next-at) (next-at-contract 𝓤 H A mem run) → Triple 𝓤 (𝓣 .C #table·fields·place-of) (place-of-contract 𝓤 H A mem run) → Triple 𝓤 (𝓣 .C #numbering·write·write-move) (write-move-contract 𝓤 H A mem run) → Triple 𝓤 (𝓣 .C #keys·without-lowest) (without-lowest-contract 𝓤 H A mem run) → Meets 𝓤 H A this.signature (WpFn 𝓤 H (𝓣 .C) (𝓣 .Λ) this-code.function) (this.spec 𝓤 H A mem run)
   write-row-meets 𝓣 known-load known-slots-of known-moves-in known-put-byte known-lowest known-next-at known-place-of known-write-move known-without-lowest = walk-meets 𝓤 H A this.ended stayed W (goes-none-slice 𝓤 H A W 2 (0 ∷ []) tt (plain (λ _. Record-row.the-row)) yes, (goes-none 𝓤 H A W 2 (λ _. usize) yes (λ κs x f. refl), (goes-none 𝓤 H A W 2 (λ _. usize) yes (λ κs x f. refl), (goes-slice 𝓤 H A W 2 1 tt (plain (λ _. u8)), tt)))) (this.clauses 𝓤 H A mem run)
       (WpFn 𝓤 H (𝓣 .C) (𝓣 .Λ) this-code.function) (WpFn-mono 𝓤 H (W .laws) 𝓣 this-code.function) (write-row-walks 𝓣 known-load known-slots-of known-moves-in known-put-byte known-lowest known-next-at known-place-of known-write-move known-without-lowest)
 
@@ -219,7 +219,7 @@ write-row-spec 𝓤 H 𝓜 𝓖 𝓡 =
     (cited 𝓤 H (load-contract 𝓤 H (𝓖 .A) (𝓜 .mem) (𝓡 .run)) 𝓜 𝓡 this-code.env #table·load load-def.routine this-code.calls-table·load (load-thm.met 𝓤 H 𝓜 𝓖 𝓡))
     (cited 𝓤 H (slots-of-contract 𝓤 H (𝓖 .A) (𝓜 .mem) (𝓡 .run)) 𝓜 𝓡 this-code.env #table·fields·slots-of slots-of-def.routine this-code.calls-table·fields·slots-of (slots-of-thm.met 𝓤 H 𝓜 𝓖 𝓡))
     (cited 𝓤 H (moves-in-contract 𝓤 H (𝓖 .A) (𝓜 .mem) (𝓡 .run)) 𝓜 𝓡 this-code.env #numbering·fields·moves-in moves-in-def.routine this-code.calls-numbering·fields·moves-in (moves-in-thm.met 𝓤 H 𝓜 𝓖 𝓡))
-    (cited 𝓤 H (put-byte-contract 𝓤 H (𝓖 .A) (𝓜 .mem) (𝓡 .run)) 𝓜 𝓡 this-code.env #plan·write·put-byte put-byte-def.routine this-code.calls-plan·write·put-byte (put-byte-thm.met 𝓤 H 𝓜 𝓖 𝓡))
+    (cited 𝓤 H (put-byte-contract 𝓤 H (𝓖 .A) (𝓜 .mem) (𝓡 .run)) 𝓜 𝓡 this-code.env #little-endian·put-byte put-byte-def.routine this-code.calls-little-endian·put-byte (put-byte-thm.met 𝓤 H 𝓜 𝓖 𝓡))
     (cited 𝓤 H (lowest-contract 𝓤 H (𝓖 .A) (𝓜 .mem) (𝓡 .run)) 𝓜 𝓡 this-code.env #keys·lowest lowest-def.routine this-code.calls-keys·lowest (lowest-thm.met 𝓤 H 𝓜 𝓖 𝓡))
     (cited 𝓤 H (next-at-contract 𝓤 H (𝓖 .A) (𝓜 .mem) (𝓡 .run)) 𝓜 𝓡 this-code.env #table·next-at next-at-def.routine this-code.calls-table·next-at (next-at-thm.met 𝓤 H 𝓜 𝓖 𝓡))
     (cited 𝓤 H (place-of-contract 𝓤 H (𝓖 .A) (𝓜 .mem) (𝓡 .run)) 𝓜 𝓡 this-code.env #table·fields·place-of place-of-def.routine this-code.calls-table·fields·place-of (place-of-thm.met 𝓤 H 𝓜 𝓖 𝓡))

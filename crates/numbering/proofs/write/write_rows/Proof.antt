@@ -25,8 +25,8 @@ use Rattle.numbering.proofs.calls.WriteWriteRow.{calls-write-row, write
 use Rattle.numbering.proofs.write.write_row.Symbol as write-row-def
 use Rattle.numbering.proofs.write.write_row.Symbol.{name as #numbering·write·write-row}
 use Rattle.numbering.proofs.write.write_row.Met as write-row-thm
-use Rattle.little_endian.specs.Front.{Wrote}
 use Rattle.numbering.specs.Writing.{ToWrite}
+use Rattle.little_endian.specs.Front.{Wrote}
 use Rattle.model.specs.Plan.{rowsBytes}
 use Rattle.numbering.proofs.calls.WriteOffsetOf.{calls-offset-of, offset-of-contract}
 use Rattle.numbering.proofs.write.offset_of.Symbol as offset-of-def
