@@ -15,7 +15,8 @@ pub mod RemovingInLists
 pub mod Looking
 pub mod LookingAgain
 pub mod Present
-pub mod Rounding
+pub mod RoundingInLists
+pub mod RoundingInRecords
 pub mod SettlingInLists
 pub mod SettlingInRecords
 pub mod calls
