@@ -1,0 +1,12 @@
+pub mod Keep
+pub mod Unrolled
+pub mod Bits
+pub mod Slots
+pub mod Chains
+pub mod Queue
+pub mod Chaining
+pub mod Losing
+pub mod Removing
+pub mod Present
+pub mod Rounding
+pub mod Settling

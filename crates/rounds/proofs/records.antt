@@ -1,0 +1,10 @@
+pub mod Changes
+pub mod Situated
+pub mod Chaining
+pub mod Following
+pub mod Queue
+pub mod Losing
+pub mod Looking
+pub mod LookingAgain
+pub mod Rounding
+pub mod Settling
