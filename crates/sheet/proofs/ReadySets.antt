@@ -26,9 +26,6 @@ pub sets-begin : {b : List ℕ} {q : ℕ} {over : List ℕ → Bool} {count : �
 sets-begin e = record { number = e; place = omega arith; rest = refl }
 
 module _ {b : List ℕ} {q : ℕ} {over : List ℕ → Bool} {count i : ℕ} (v : ReadySets b q over count i) where
-  pub sets-within : i < count → i < length (readyOf b q)
-  sets-within h = omega (arith, v .number)
-
   module _ {p : ℕ → Bool} {stop : Bool} (by : Decides p over stop) where
     -- no ready set decided
     pub sets-ended : count ≤ i → not stop ≡ over (readyOf b q)
@@ -37,8 +34,8 @@ module _ {b : List ℕ} {q : ℕ} {over : List ℕ → Bool} {count i : ℕ} (v 
     -- at place i, where x stands and the test answers t
     module _ (h : i < count) {x : ℕ} (at : x ≡ getD (readyOf b q) i 0) {t : Bool} (tested : t ≡ p x) where
       pub sets-decided : t ≡ stop → stop ≡ over (readyOf b q)
-      sets-decided e = decided by (readyOf b q) i (v .rest) 0 (sets-within h) at tested e
+      sets-decided e = decided by (readyOf b q) i (v .rest) 0 (omega (arith, v .number)) at tested e
 
       pub sets-onward : t ≡ not stop → ReadySets b q over count (i + 1)
       sets-onward e =
-          record { number = v .number; place = omega arith; rest = onward by (readyOf b q) i (v .rest) 0 (sets-within h) at tested e }
+          record { number = v .number; place = omega arith; rest = onward by (readyOf b q) i (v .rest) 0 (omega (arith, v .number)) at tested e }

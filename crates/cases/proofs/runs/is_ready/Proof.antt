@@ -9,7 +9,7 @@ use borrow.Author.Needs.{needs}
 use Rattle.model.specs.Lists.{any}
 use Rattle.model.specs.Test.{listed}
 use Rattle.model.proofs.Loops.{any-decides}
-use Rattle.sheet.proofs.ReadySets.{ReadySets, sets-begin, sets-within, sets-decided, sets-onward, sets-ended}
+use Rattle.sheet.proofs.ReadySets.{ReadySets, sets-begin, sets-decided, sets-onward, sets-ended}
 use Rattle.cases.proofs.runs.is_ready.Statement.{statement}
 use Rattle.cases.proofs.runs.is_ready.Tie as tie
 
@@ -28,7 +28,7 @@ loop-holds c = sets-begin (c .ready-count .ensures)
 ready-set-requires : tie.Need-ready-set-requires Inv-loop μ-loop
 ready-set-requires c κs =
     let given = c .before .before .before .before .pre in
-    (given, sets-within (c .before .loop .inv) (omega arith))
+    (given, omega arith)
 
 returns : tie.Need-returns Inv-loop μ-loop
 unfolding listed
