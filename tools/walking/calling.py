@@ -19,7 +19,8 @@ class Calling:
         self.values.append(g.result)
         unit = g.result.name == '()'
         muts = [p for p in g.refs if p.mut]
-        page = self.page.take('call', name.split('::')[-1], *[p.name for p in muts], 'fact', *(['needs'] if g.needs else []), *([] if unit else ['result']))
+        keys = [p.name for p in muts] + ['fact'] + ['needs'] * bool(g.needs) + ['result'] * (not unit)
+        page = self.page.take('call', name.split('::')[-1], *keys)
         n = self.fresh()
         st.calls += 1
         args = items(s[2])

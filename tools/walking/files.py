@@ -3,6 +3,7 @@ import subprocess
 import tempfile
 from pathlib import Path
 
+from walking.code import code_of
 from walking.contracts import Signature, source
 from walking.refusal import Refusal, refuse
 from walking.step import call_step
@@ -22,8 +23,18 @@ def all_pages():
     return [(walks.parent.name, name) for walks in sorted(Path('crates').glob('*/walks')) for name in pages(walks.parent.name)]
 
 
+def page_file(crate, name):
+    return Path('crates', crate, 'walks', *name.split('::')).with_suffix('.walk')
+
+
 def proof_file(crate, name):
     return Path('crates', crate, 'proofs', *name.split('::'), 'Proof.antt')
+
+
+def page_text(crate, name):
+    if not page_file(crate, name).exists():
+        refuse('there is no such page')
+    return page_file(crate, name).read_text()
 
 
 def yielded(wanted):
@@ -31,14 +42,15 @@ def yielded(wanted):
     texts = {}
     for crate, name in wanted:
         try:
-            walk = Walk(crate, name)
+            page = page_text(crate, name)
+            walk = Walk(crate, name, code_of(crate), page)
             texts[proof_file(crate, name)] = walk.proof()
             for g in walk.callees.values():
                 file = Path('crates', g.crate, 'proofs', 'calls', g.step() + '.antt')
                 if file not in texts:
                     texts[file] = call_step(g)
         except Refusal as why:
-            refuse(f'crates/{crate}/walks/{name.replace("::", "/")}.walk: {why}')
+            refuse(f'{page_file(crate, name)}: {why}')
     return formatted(texts)
 
 
@@ -70,7 +82,8 @@ def lists(steps):
         names = sorted(file.stem for file in steps if file.parent == lib.with_name('calls'))
         if names:
             lines.append('pub mod calls')
-            texts[lib.with_name('calls.antt')] = commented([f'{GENERATED}: the steps of calls.']) + ''.join(f'pub mod {name}\n' for name in names)
+            head = commented([f'{GENERATED}: the steps of calls.'])
+            texts[lib.with_name('calls.antt')] = head + ''.join(f'pub mod {name}\n' for name in names)
         texts[lib] = ''.join(f'{line}\n' for line in lines)
     return texts
 
@@ -101,6 +114,8 @@ def whole():
 def part(wanted, crate):
     """What some pages of a crate yield, and the standing steps of its functions; other steps are left as they are."""
     texts = standing(crate)
+    if not wanted and not texts:
+        refuse(f'crates/{crate} has no pages')
     write(texts)
     texts |= yielded(wanted)
     steps = {file for file in texts if is_step(file)} | {file for file in generated() if is_step(file)}

@@ -1,5 +1,6 @@
 """A loop in a walk."""
 from walking.code import items, statements
+from walking.refusal import refuse
 from walking.state import Local
 from walking.text import indent, par, path, tupled
 
@@ -51,6 +52,8 @@ class Looping:
         return live
 
     def loop(self, stmts, i, st):
+        if self.has_loop:
+            refuse('a second loop: put it into a function of its own')
         page = self.page.take('loop', '', 'var', 'slice', 'inv', 'measure', 'begin')
         turn = statements(stmts[i][1][1])
         self.has_loop, self.after_loop = True, i + 1

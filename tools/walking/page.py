@@ -71,11 +71,12 @@ class Page:
 
     def take(self, kind, what='', *keys):
         """The next entry, which has to be of this kind and can have these keys."""
+        event = f'{kind} {what}'.strip()
         if self.next == len(self.entries):
-            refuse(f'the page ends, and the code goes on with: {kind} {what}')
+            refuse(f'the page ends, and the code goes on with: {event}')
         entry = self.entries[self.next]
         if entry.head != kind or (what and entry.text != what):
-            refuse(f'the page has "{entry}" where the code has: {kind} {what}')
+            refuse(f'the page has "{entry}" where the code has: {event}')
         for key, _ in entry.lines:
             if key not in keys:
                 refuse(f'the page\'s entry "{entry}" has "{key}", which it cannot have')

@@ -1,10 +1,9 @@
 """The walk of a function, as its proof file."""
 import re
-from pathlib import Path
 
 from walking.calling import Calling
-from walking.code import code_of, items, statements
-from walking.contracts import Signature
+from walking.code import items, statements
+from walking.contracts import Signature, words_of
 from walking.elements import Elements
 from walking.looping import Looping
 from walking.names import TABLE, library, proofs_of
@@ -20,17 +19,15 @@ from walking.text import GENERATED, PREAMBLE, Stack, chain, clause_uses, comment
 class Walk(Steps, Elements, Tables, Calling, Looping, Terms):
     """One function: its code, its page, and the texts that the walk makes."""
 
-    def __init__(self, crate, name):
+    def __init__(self, crate, name, code, page):
         self.crate, self.name = crate, name
-        code = code_of(crate)
         if f'{crate}::{name}' not in code:
             refuse(f'{crate} has no function {name}')
         item = code[f'{crate}::{name}']
         self.f = Signature(crate, name)
         self.locals = [x[1] for x in items(item[4])]
         self.body = statements(item[5])
-        self.file = name.replace('::', '/')
-        self.page = Page(Path('crates', crate, 'walks', self.file + '.walk').read_text())
+        self.page = Page(page)
         self.callees, self.values, self.count = {}, [p.value for p in self.f.params] + [self.f.result], 0
         self.lemmas, self.heads, self.rooms, self.has_loop, self.bound_names = [], [], [], False, set()
 
@@ -78,6 +75,10 @@ class Walk(Steps, Elements, Tables, Calling, Looping, Terms):
         for x in {p.name for p in f.params} | set(needed) | self.bound_names:
             if x in taken:
                 refuse(f'{x} is a name of the logic: choose another')
+        words = {w for g in [f, *self.callees.values()] for c in g.needs + g.gives for w in words_of(c.fact) if w in g.uses}
+        for x in needed:
+            if x in words or x in {p.name for p in f.params}:
+                refuse(f'the clause {x} has the name of a parameter or of a word in a contract: choose another')
         slots = ['stay-slice' if p.mut else 'stay-none-slice' if p.slice else 'stay-none' for p in f.params]
         stays = [f'{s} ({f.lifetime(p)} ∷ []) tt (plain (λ _. {p.value.row}))' + ('' if p.mut else ' yes') if p.slice else f'{s} (λ _. {p.value.row}) yes' for p, s in zip(f.params, slots)]
         count = len(f.refs)
@@ -223,5 +224,5 @@ unfolding this-code.routine tablesOf
             more.append({m.group(1): set(x.strip() for x in m.group(2).split(','))})
         more += [{'lib.ListN': {'replicate'}}, clause_uses(f, self.crate)] + [v.uses(self.crate) for v in self.values]
         more.append({f'{proofs_of(TABLE, self.crate)}.Records': {'offset-fits'}})
-        head = [f'{GENERATED} from walks/{self.file}.walk: change that page.', *self.page.story, 'Assumes nothing.']
+        head = [f'{GENERATED} from walks/{self.name.replace("::", "/")}.walk: change that page.', *self.page.story, 'Assumes nothing.']
         return commented(head) + imports(body, self.crate, merged(*more)) + '\n' + body
