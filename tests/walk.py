@@ -326,8 +326,8 @@ def tool():
     refused('no code of made: error: nothing here', code.code_of, 'made')
     code.subprocess = kept
     refused('there is no such page', files.page_text, 'made', 'f')
-    for args, why in ((['--nonsense'], '--nonsense is no option'), (['nowhere'], 'crates/nowhere has no pages'),
-                      (['nowhere', 'f'], 'crates/nowhere/walks/f.walk: there is no such page')):
+    for args, why in ((['--nonsense'], '--nonsense is no option'), (['nowhere'], 'crates.txt has no crate nowhere'),
+                      (['model', 'f'], 'crates/model/walks/f.walk: there is no such page')):
         ran = subprocess.run([sys.executable, 'tools/walk', *args], capture_output=True, text=True)
         seen.append(ran.stderr.removeprefix('walk: ').strip())
         case(f'"{why}" is refused: it says "{ran.stderr.strip()}"', ran.returncode == 1 and ran.stderr.startswith(f'walk: {why}'))
@@ -354,6 +354,13 @@ def compared():
     files.write({proof: '-- By hand.\n', lib: 'pub mod Laws\n'})
     case('a proof by hand is none of the tool\'s', files.differences({}) == [])
     files.write(files.lists([load]) | {load: ''})
+    kept, files.formatted = files.formatted, lambda texts: texts
+    case('a step that no function has is no standing one', files.standing('made') == {})
+    ready = proofs / 'calls/Ready.antt'
+    files.write({ready: ''})
+    case('a step that stands is written by the contract', 'a call of `made::ready` in a walk' in files.standing('made')[ready])
+    ready.unlink()
+    files.formatted = kept
     case('a step is listed', (lib.read_text(), calls_.read_text().splitlines()[1:]) == ('pub mod Laws\npub mod calls\n', ['pub mod Load']))
     told = [f'{lib} is not what tools/walk writes', f'{load} {behind}', f'{calls_} {behind}']
     case('a step without a call is told', files.differences(files.lists([])) == told)

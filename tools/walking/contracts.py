@@ -83,6 +83,11 @@ class Source:
             self.functions[name] = Function(params, (m.group(4) or '()').strip(), needs, gives, file, uses)
 
 
+def step_of(name):
+    """The name of the step of a call of a function, which stands beside it."""
+    return ''.join(x.capitalize() for x in re.split(r'_|::', name))
+
+
 sources = {}
 
 
@@ -234,10 +239,6 @@ class Signature:
     def module(self, crate):
         path = self.name.replace('::', '.')
         return f'Rattle.{crate}.proofs.{path}' if self.crate == crate else f'Rattle.{self.crate}.proofs.{path}'
-
-    # the name of the step of a call of it, which stands beside it
-    def step(self):
-        return ''.join(x.capitalize() for x in re.split(r'_|::', self.name))
 
     def said(self, clause, entry, end, values, result=None):
         """A clause with its words for parameters and result replaced."""

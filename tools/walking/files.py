@@ -1,16 +1,22 @@
 """The files that pages yield: the proofs, and the steps of calls, each beside its callee."""
+import re
 import subprocess
 import tempfile
 from pathlib import Path
 
 from walking.code import code_of
-from walking.contracts import Signature, source
+from walking.contracts import Signature, source, step_of
 from walking.refusal import Refusal, refuse
 from walking.step import call_step
 from walking.text import GENERATED, commented
 from walking.walk import Walk
 
 ATTRIBUTES = Path('.gitattributes')
+
+
+def crates():
+    """All crates, each after those it builds on."""
+    return re.findall(r'^(\w+):', Path('crates.txt').read_text(), re.M)
 
 
 def pages(crate):
@@ -46,7 +52,7 @@ def yielded(wanted):
             walk = Walk(crate, name, code_of(crate), page)
             texts[proof_file(crate, name)] = walk.proof()
             for g in walk.callees.values():
-                file = Path('crates', g.crate, 'proofs', 'calls', g.step() + '.antt')
+                file = Path('crates', g.crate, 'proofs', 'calls', step_of(g.name) + '.antt')
                 if file not in texts:
                     texts[file] = call_step(g)
         except Refusal as why:
@@ -55,10 +61,10 @@ def yielded(wanted):
 
 
 def standing(crate):
-    """The steps of calls of a crate's functions that are there, by its contracts: text by file. Other crates' pages ask for them."""
-    calls = Path('crates', crate, 'proofs', 'calls')
-    functions = {g.step(): g for g in (Signature(crate, name) for name in source(crate).functions)}
-    return formatted({file: call_step(functions[file.stem]) for file in sorted(calls.glob('*.antt')) if file.stem in functions})
+    """The steps of calls of a crate's functions that are there, by its contracts as they are: text by file."""
+    names = {step_of(name): name for name in source(crate).functions}
+    steps = [file for file in Path('crates', crate, 'proofs', 'calls').glob('*.antt') if file.stem in names]
+    return formatted({file: call_step(Signature(crate, names[file.stem])) for file in steps})
 
 
 def formatted(texts):
@@ -111,22 +117,33 @@ def whole():
     return texts | lists([file for file in texts if is_step(file)]) | attributes()
 
 
-def part(wanted, crate):
-    """What some pages of a crate yield, and the standing steps of its functions; other steps are left as they are."""
-    texts = standing(crate)
-    if not wanted and not texts:
-        refuse(f'crates/{crate} has no pages')
-    write(texts)
-    texts |= yielded(wanted)
-    steps = {file for file in texts if is_step(file)} | {file for file in generated() if is_step(file)}
-    return texts | lists(steps) | attributes()
-
-
 def write(texts):
     for file, text in texts.items():
         if not file.exists() or file.read_text() != text:
             file.parent.mkdir(parents=True, exist_ok=True)
             file.write_text(text)
+
+
+def write_part(crate, names):
+    """Writes what some pages of a crate yield, and the steps of calls of its functions that are there: the code of a crate is had only if
+    those below it are proved. Other steps are left as they are."""
+    write(standing(crate))
+    texts = yielded([(crate, name) for name in names])
+    steps = [file for file in {*texts, *generated()} if is_step(file)]
+    write(texts | lists(steps) | attributes())
+    return texts
+
+
+def write_whole():
+    """Writes what all pages yield, crate after crate, and removes generated files that nothing asks for."""
+    texts = {}
+    for crate in crates():
+        texts |= write_part(crate, pages(crate))
+    texts |= lists([file for file in texts if is_step(file)]) | attributes()
+    for file in generated() - set(texts):
+        print('removed', file)
+        file.unlink()
+    write(texts)
 
 
 def differences(texts):

@@ -3,7 +3,7 @@ import re
 
 from walking.calling import Calling
 from walking.code import items, statements
-from walking.contracts import Signature, words_of
+from walking.contracts import Signature, step_of, words_of
 from walking.elements import Elements
 from walking.looping import Looping
 from walking.names import TABLE, library, proofs_of
@@ -217,7 +217,7 @@ unfolding this-code.routine tablesOf
         for g in self.callees.values():
             big = f'{g.antt()}-contract'
             m = g.module(self.crate)
-            more.append({f'{proofs_of(g.crate, self.crate)}.calls.{g.step()}': {big, f'calls-{g.antt()}', f'calls-{g.antt()}-last'}, f'{m}.Symbol as {g.antt()}-def': None, f'{m}.Symbol': {f'name as {g.key()}'}, f'{m}.Met as {g.antt()}-thm': None})
+            more.append({f'{proofs_of(g.crate, self.crate)}.calls.{step_of(g.name)}': {big, f'calls-{g.antt()}', f'calls-{g.antt()}-last'}, f'{m}.Symbol as {g.antt()}-def': None, f'{m}.Symbol': {f'name as {g.key()}'}, f'{m}.Met as {g.antt()}-thm': None})
             more.append(clause_uses(g, self.crate))
         for u in self.page.uses:
             m = re.match(r'use ([^{]+)\.\{(.*)\}$', u)
