@@ -15,7 +15,7 @@ use Rattle.model.specs.Connect.{Outcome, refused, related, found, connected, li
 use Rattle.model.proofs.Situation.{is-same}
 use Rattle.model.proofs.Search.{search-all}
 use Rattle.model.proofs.Weak.{is-reached, rank-reached}
-use Rattle.model.proofs.Moves.{Within, next-within}
+use Rattle.model.proofs.Moves.{InStates, next-within}
 use Rattle.model.proofs.Sheet.{WellFormed}
 use Rattle.sheet.specs.Whole.{IsSheet}
 use Rattle.sheet.proofs.Whole.{sheet-formed}
@@ -28,14 +28,14 @@ use Rattle.reached.specs.Reached.{Searchable, countBy, Explored}
 use Rattle.connect.specs.Answers.{answerOf, refusing, connectedFrom, Writes}
 use Rattle.connect.specs.Related.{relatedIn, relatedFrom}
 use Rattle.connect.specs.declared.Answer.{Answer}
-use Rattle.connect.proofs.Table.{Held, related-table}
+use Rattle.connect.proofs.Table.{HoldsSearch, related-table}
 
 -- ---- reached situations fit their keys
 
 module _ (k : ℕ) (σ τ : Contract) (σ-formed : WellFormed σ) (τ-formed : WellFormed τ) (rank : k ≤ 3) where
-  reached-within : {s : Situation} → Reached codes (next (alike k) σ τ) start s → Within σ τ s
+  reached-within : {s : Situation} → Reached codes (next (alike k) σ τ) start s → InStates σ τ s
   unfolding start
-  reached-within {s} (at-start e) = subst⁻¹ (Within σ τ) e (σ-formed .some-state, τ-formed .some-state)
+  reached-within {s} (at-start e) = subst⁻¹ (InStates σ τ) e (σ-formed .some-state, τ-formed .some-state)
   reached-within (by-move {s = s} {t = t} code m e r) = next-within σ τ (σ-formed .closed) (τ-formed .closed) s (reached-within r) (alike k) t code e
 
   alike-few : (i : ℕ) → getD (alike k) i 0 ≤ 3
@@ -119,7 +119,7 @@ module _ (k : ℕ) (old new : List ℕ) (limit count : ℕ) (ys ys′ : List Rec
     counted-all : length (search .done) ≡ count
     counted-all = sym (explored .answer ∙ counted-some .1)
 
-    held : Held k σ τ limit (keysOf ys′) (linksOf ys′)
+    held : HoldsSearch k σ τ limit (keysOf ys′) (linksOf ys′)
     held =
         record {
           whole = whole;

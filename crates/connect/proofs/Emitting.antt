@@ -14,7 +14,7 @@ use Rattle.model.specs.Connect.{counted, emitted}
 use Rattle.little_endian.specs.Front.{front}
 use Rattle.little_endian.proofs.Front.{front-none}
 use Rattle.table.specs.declared.Record.{Record}
-use Rattle.numbering.specs.Table.{statesAt, rowsAt, UnnumberedTable, NumberedTable, NumberedInto}
+use Rattle.numbering.specs.Table.{statesAt, keptRowsAt, UnnumberedTable, NumberedTable, NumberedInto}
 use Rattle.numbering.specs.Writing.{ToWrite}
 use Rattle.numbering.proofs.records.Held.{rows-stay}
 use Rattle.numbering.proofs.records.Numbering.{numbered-table}
@@ -59,15 +59,15 @@ module _ (k : ℕ) (old : List ℕ) (count rounds : ℕ) (ys : List Record) {sta
   numbered-states = numbered-table ys (unnumbered .settled) into
 
   abbrev rows : List (List Move)
-  rows = rowsAt count ys
+  rows = keptRowsAt count ys
 
-  rows-same : rowsAt count ys′ ≡ rows
+  rows-same : keptRowsAt count ys′ ≡ rows
   rows-same = rows-stay (into .only) count
 
   states-count : states ≡ length rows
   states-count = states-are ys′ numbered-states ∙ ap length rows-same
 
-  module _ {size : ℕ} (size-is : (n k : ℕ) → size ≡ length (planBytes n k (rowsAt count ys′))) (plan : List ℕ) {enough : Bool}
+  module _ {size : ℕ} (size-is : (n k : ℕ) → size ≡ length (planBytes n k (keptRowsAt count ys′))) (plan : List ℕ) {enough : Bool}
       (enough-is : enough ≡ leb size (length plan)) where
     size-same : (n : ℕ) → size ≡ length (planBytes n k rows)
     size-same n = size-is n k ∙ ap (λ (rows : List (List Move)). length (planBytes n k rows)) rows-same
@@ -76,10 +76,10 @@ module _ (k : ℕ) (old : List ℕ) (count rounds : ℕ) (ys : List Record) {sta
       fitting : size ≤ length plan
       fitting = leb-true size (length plan) (sym enough-is ∙ yes)
 
-      pub plan-to-write : (n : ℕ) → ToWrite (planBytes n k (rowsAt count ys′)) count states ys′ plan
+      pub plan-to-write : (n : ℕ) → ToWrite (planBytes n k (keptRowsAt count ys′)) count states ys′ plan
       plan-to-write n = record { table = numbered-states; room = omega (arith, size-is n k, fitting) }
 
-      pub plan-emitted : {n : ℕ} {plan′ : List ℕ} {r : Answer} → n ≡ contractIn old .n → plan′ ≡ front (planBytes n k (rowsAt count ys′)) plan
+      pub plan-emitted : {n : ℕ} {plan′ : List ℕ} {r : Answer} → n ≡ contractIn old .n → plan′ ≡ front (planBytes n k (keptRowsAt count ys′)) plan
           → answerOf r ≡ counting 0 count states rounds size → Writes (emittedFrom k old count rounds ys (length plan)) r plan plan′
       plan-emitted {n} {plan′} {r} n-is written a =
           subst (λ (n : ℕ). Writes (emitted n k (length plan) count rounds rows) r plan plan′) n-is

@@ -26,7 +26,7 @@ use Rattle.table.proofs.Lists.{marks-at, numbers-at}
 use Rattle.rounds.specs.Settled.{settledIn, SettledDone}
 use Rattle.rounds.specs.Work.{SettledWork}
 use Rattle.numbering.specs.Kept.{keptRows}
-use Rattle.numbering.specs.Table.{rowsAt, UnnumberedTable}
+use Rattle.numbering.specs.Table.{keptRowsAt, UnnumberedTable}
 use Rattle.connect.specs.Answers.{answerOf, counting, Writes}
 use Rattle.connect.specs.Related.{relatedIn, relatedFrom, emittedFrom}
 use Rattle.connect.proofs.Emitting.{writes-none}
@@ -115,7 +115,7 @@ module _ (k : ℕ) (old new : List ℕ) (count rounds : ℕ) (ys : List Record) 
       -- 13 or acceptance
       pub relate-kept : (r : Answer) (plan plan′ : List ℕ) → Writes (emittedFrom k old count rounds ys′ (length plan)) r plan plan′
           → Writes (relatedFrom k old new count ys (length plan)) r plan plan′
-      unfolding rowsAt
+      unfolding keptRowsAt
       relate-kept r plan plan′ w =
           subst⁻¹ (λ (o : Outcome). Writes o r plan plan′)
           (related-kept k (contractIn old) (contractIn new) (keysOf ys) (linksOf ys) count (length plan) rounds (marksOf ys) (marksOf ys′)

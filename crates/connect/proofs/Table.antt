@@ -24,7 +24,7 @@ use Rattle.model.proofs.Actions.{upto-mem}
 use Rattle.model.proofs.Situation.{is-same}
 use Rattle.model.proofs.Search.{Inv, search-inv, search-all, search-front}
 use Rattle.model.proofs.PlanRows.{place-at, mem-at}
-use Rattle.model.proofs.Renumber.{Within, Renumbering, settledNamed, settled-renumber, settled-within, plan-rows-renumber, member-renumber}
+use Rattle.model.proofs.Renumber.{AllIn, Renumbering, settledNamed, settled-renumber, settled-within, plan-rows-renumber, member-renumber}
 use Rattle.keys.specs.Keys.{keyOf, situationIn}
 use Rattle.keys.specs.Links.{nextIn}
 use Rattle.keys.proofs.Keys.{Fits, key-back}
@@ -95,13 +95,13 @@ module _ (k : ℕ) (σ τ : Contract) (limit : ℕ) where
   Domain i = i < count
 
   -- the lists hold the search
-  pub record Held (keys links : List ℕ) : Type 0 where
+  pub record HoldsSearch (keys links : List ℕ) : Type 0 where
     pub whole : found .todo ≡ []
     pub fits : (s : Situation) → List·Memᴰ s done → Fits s
     pub keys-hold : take count keys ≡ map keyOf done
     pub links-hold : (i code : ℕ) → i < count → List·Memᴰ code codes → nextIn links i code ≡ Option·map (λ t. place (same t) done) (nx (name i) code)
 
-  module _ (keys links : List ℕ) (h : Held keys links) where
+  module _ (keys links : List ℕ) (h : HoldsSearch keys links) where
     inv : Inv codes nx start done (found .todo)
     inv = search-inv same is-same codes nx start limit
 
@@ -153,10 +153,10 @@ module _ (k : ℕ) (σ τ : Contract) (limit : ℕ) where
     abbrev left : Settled ℕ
     left = settledIn σ τ keys links count
 
-    all-within : Within Domain (upto 0 count)
+    all-within : AllIn Domain (upto 0 count)
     all-within a m = omega (arith, upto-mem count 0 a m)
 
-    kept-within : Within Domain (left .kept)
+    kept-within : AllIn Domain (left .kept)
     unfolding settledIn testIn
     kept-within = settled-within renumbering (testIn σ τ keys) (upto 0 count) all-within
 

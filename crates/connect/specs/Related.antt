@@ -14,7 +14,7 @@ use Rattle.keys.specs.Links.{nextIn}
 use Rattle.table.specs.declared.Record.{Record}
 use Rattle.table.specs.Lists.{keysOf, linksOf}
 use Rattle.rounds.specs.Settled.{settledIn}
-use Rattle.numbering.specs.Table.{rowsAt}
+use Rattle.numbering.specs.Table.{keptRowsAt}
 
 -- 12, "the start is removed", or 13 or acceptance: `related` of the model, for the situations that the lists hold
 unfoldable pub relatedIn : (k : ℕ) → Contract → Contract → (keys links : List ℕ) → (count room : ℕ) → Outcome
@@ -29,4 +29,4 @@ relatedFrom k old new count ys room = relatedIn k (contractIn old) (contractIn n
 
 -- 13 or acceptance, for the records of a table that is settled
 abbrev pub emittedFrom : (k : ℕ) (old : List ℕ) (count rounds : ℕ) → List Record → (room : ℕ) → Outcome
-emittedFrom k old count rounds ys room = emitted (contractIn old .n) k room count rounds (rowsAt count ys)
+emittedFrom k old count rounds ys room = emitted (contractIn old .n) k room count rounds (keptRowsAt count ys)

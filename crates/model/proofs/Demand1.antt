@@ -17,7 +17,7 @@ use Rattle.model.specs.Plan.{held, Plan, readPlan, stepRow, stepIn, step
 use Rattle.model.specs.Connect.{Outcome, refused, counted, connected, limitOf, ranked, outcomeOf, clears, connectOf}
 use Rattle.model.specs.Client.{complies, compliesIn, compliesOf}
 use Rattle.model.specs.Demands.{Answers, Steps, Demand-1, number}
-use Rattle.model.proofs.Refusals.{Only, both-numbers}
+use Rattle.model.proofs.Refusals.{OnlyRefused, both-numbers}
 use Rattle.model.proofs.Connect.{Shape, cut-off, removed, too-long, fits, shape}
 
 -- an outcome that writes no more than there is room for, and nothing on a refusal
@@ -48,7 +48,7 @@ sound-connected k σ τ limit room = go (shape k σ τ limit room)
     go (fits w m l e) =
         rw e (unfold counted in record { table = omega arith; written = refl; nothing = λ n. absurd (n refl); uncounted = λ l m. absurd (omega arith); within = l })
 
-sound-ranked : (k records room : ℕ) (r : Reading Refusal Both) → Only (λ (r : Refusal). (1 ≤ r .number) × (r .number ≤ 9)) r → Sound room (ranked k records room r)
+sound-ranked : (k records room : ℕ) (r : Reading Refusal Both) → OnlyRefused (λ (r : Refusal). (1 ≤ r .number) × (r .number ≤ 9)) r → Sound room (ranked k records room r)
 unfolding ranked
 sound-ranked k records room (refusal r) o = sound-refused room r (omega (arith, o .1))
 sound-ranked k records room (good sheets) o = go (leb k 3)
@@ -105,7 +105,7 @@ step-in (some p) state code = go (ltb state (length (p .rows)))
     go true = step-row (held (getD (p .rows) state []) code)
     go false = record { number = inr (omega arith); table = omega arith; refused = λ n. refl }
 
-check-number : (r : Reading Refusal Both) → Only (λ (r : Refusal). (1 ≤ r .number) × (r .number ≤ 9)) r → compliesIn r .number ≤ 9
+check-number : (r : Reading Refusal Both) → OnlyRefused (λ (r : Refusal). (1 ≤ r .number) × (r .number ≤ 9)) r → compliesIn r .number ≤ 9
 unfolding compliesIn
 check-number (refusal r) o = o .1
 check-number (good sheets) o = omega arith

@@ -25,7 +25,7 @@ use Rattle.model.proofs.Situation.{is-same}
 use Rattle.model.proofs.Test.{PassesAt, is-test}
 use Rattle.model.proofs.Weak.{is-reached, rank-reached}
 use Rattle.model.proofs.Sheet.{WellFormed, both-elim, both-well-formed}
-use Rattle.model.proofs.Refusals.{Only, both-numbers}
+use Rattle.model.proofs.Refusals.{OnlyRefused, both-numbers}
 use Rattle.model.proofs.PlanRows.{mem-at}
 use Rattle.model.proofs.ClientCheck.{contract-read}
 use Rattle.model.proofs.Bound.{allowed-alike}
@@ -68,7 +68,7 @@ accepted records room k old new = go (readBoth 0 0 old new) refl (both-numbers 0
         accepted-shape k (limitOf records) room old new sheets (record { reads = e; rank = leb-true k 3 l }) z (shape k (sheets .one) (sheets .two) (limitOf records) room)
     at-rank sheets e false l z = absurd (omega arith)
 
-    go : (r : Reading Refusal Both) → readBoth 0 0 old new ≡ r → Only (λ (r : Refusal). (1 ≤ r .number) × (r .number ≤ 9)) r
+    go : (r : Reading Refusal Both) → readBoth 0 0 old new ≡ r → OnlyRefused (λ (r : Refusal). (1 ≤ r .number) × (r .number ≤ 9)) r
         → ranked k records room r .answer .number ≡ 0 → Accepted k (limitOf records) room old new
     go (refusal r) e o z = absurd (omega (arith, o .0))
     go (good sheets) e o z = at-rank sheets e (leb k 3) refl z

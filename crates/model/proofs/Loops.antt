@@ -11,7 +11,7 @@ use lib.Seq.{drop-cons}
 use Rattle.model.specs.Lists.{any, all}
 
 -- what is asked of a list is answered by `stop` at the first element whose test says `stop`
-pub record Decides {A : Type 0} (p : A → Bool) (over : List A → Bool) (stop : Bool) : Type 0 where
+pub record Decisive {A : Type 0} (p : A → Bool) (over : List A → Bool) (stop : Bool) : Type 0 where
   -- such an element decides
   pub here : (x : A) (xs : List A) → p x ≡ stop → stop ≡ over (x ∷ xs)
   -- any other leaves it to the rest
@@ -19,15 +19,15 @@ pub record Decides {A : Type 0} (p : A → Bool) (over : List A → Bool) (stop 
   -- and none is left
   pub never : not stop ≡ over []
 
-pub any-decides : {A : Type 0} (p : A → Bool) → Decides p (any p) true
+pub any-decides : {A : Type 0} (p : A → Bool) → Decisive p (any p) true
 unfolding any
 any-decides p = record { here = λ x xs e. rw e refl; later = λ x xs e. rw e refl; never = refl }
 
-pub all-decides : {A : Type 0} (p : A → Bool) → Decides p (all p) false
+pub all-decides : {A : Type 0} (p : A → Bool) → Decisive p (all p) false
 unfolding all
 all-decides p = record { here = λ x xs e. rw e refl; later = λ x xs e. rw e refl; never = refl }
 
-module _ {A : Type 0} {p : A → Bool} {over : List A → Bool} {stop : Bool} (by : Decides p over stop) (l : List A) (i : ℕ)
+module _ {A : Type 0} {p : A → Bool} {over : List A → Bool} {stop : Bool} (by : Decisive p over stop) (l : List A) (i : ℕ)
     (rest : over (drop i l) ≡ over l) where
   -- past the last place
   pub ended : length l ≤ i → not stop ≡ over l

@@ -14,33 +14,33 @@ use Rattle.model.specs.Contract.{actions, offersIn}
 use Rattle.model.specs.Sheet.{Reading, good, refusal, check, then, Fault, Trailer, trailer, strayBit, masksFrom, successorsFrom, rowWith, rowAt, statesFrom, Sheet, goodTrailer, readSheet, Refusal, inPlace, plain, readBoth}
 
 -- a reading is refused only as P allows
-abbrev pub Only : {E A : Type 0} → (E → Type 0) → Reading E A → Type 0
-Only P (good a) = Unit {0}
-Only P (refusal e) = P e
+abbrev pub OnlyRefused : {E A : Type 0} → (E → Type 0) → Reading E A → Type 0
+OnlyRefused P (good a) = Unit {0}
+OnlyRefused P (refusal e) = P e
 
 module _ {E : Type 0} (P : E → Type 0) where
-  only-check : {A : Type 0} (ok : Bool) (e : E) (r : Reading E A) → P e → Only P r → Only P (check ok e r)
+  only-check : {A : Type 0} (ok : Bool) (e : E) (r : Reading E A) → P e → OnlyRefused P r → OnlyRefused P (check ok e r)
   unfolding check
   only-check true e r p o = o
   only-check false e r p o = p
 
-  only-then : {A B : Type 0} (r : Reading E A) (f : A → Reading E B) → Only P r → ((a : A) → Only P (f a)) → Only P (then r f)
+  only-then : {A B : Type 0} (r : Reading E A) (f : A → Reading E B) → OnlyRefused P r → ((a : A) → OnlyRefused P (f a)) → OnlyRefused P (then r f)
   unfolding then
   only-then (good a) f o g = g a
   only-then (refusal e) f o g = o
 
-  pub only-elim : {A : Type 0} (r : Reading E A) (e : E) → Only P r → r ≡ refusal e → P e
-  only-elim r e o q = subst (Only P) q o
+  pub only-elim : {A : Type 0} (r : Reading E A) (e : E) → OnlyRefused P r → r ≡ refusal e → P e
+  only-elim r e o q = subst (OnlyRefused P) q o
 
 -- a number from 1 to a last one
-abbrev pub Numbered : ℕ → ℕ → Type 0
-Numbered last number = (1 ≤ number) × (number ≤ last)
+abbrev pub InTable : ℕ → ℕ → Type 0
+InTable last number = (1 ≤ number) × (number ≤ last)
 
 abbrev OfSheet : Fault → Type 0
-OfSheet f = Numbered 7 (f .number)
+OfSheet f = InTable 7 (f .number)
 
 module _ (b : List ℕ) (t : Trailer) where
-  only-masks : (q left low i : ℕ) → Only OfSheet (masksFrom b t q left low i)
+  only-masks : (q left low i : ℕ) → OnlyRefused OfSheet (masksFrom b t q left low i)
   unfolding masksFrom
   only-masks q zero low i = tt
   only-masks q (suc left) low i =
@@ -48,14 +48,14 @@ module _ (b : List ℕ) (t : Trailer) where
       (only-check OfSheet (not (strayBit (t .n) (t .role) (word b i))) _ _ (omega arith, omega arith)
       (only-then OfSheet (masksFrom b t q left (suc (word b i)) (i + 2)) _ (only-masks q left (suc (word b i)) (i + 2)) (λ masks. tt)))
 
-  only-successors : (q left i : ℕ) → Only OfSheet (successorsFrom b t q left i)
+  only-successors : (q left i : ℕ) → OnlyRefused OfSheet (successorsFrom b t q left i)
   unfolding successorsFrom
   only-successors q zero i = tt
   only-successors q (suc left) i =
       only-check OfSheet (ltb (byte b i) (t .count)) _ _ (omega arith, omega arith)
       (only-then OfSheet (successorsFrom b t q left (i + 1)) _ (only-successors q left (i + 1)) (λ successors. tt))
 
-  only-row : (q i : ℕ) → Only OfSheet (rowAt b t q i)
+  only-row : (q i : ℕ) → OnlyRefused OfSheet (rowAt b t q i)
   unfolding rowAt rowWith
   only-row q i =
       only-check OfSheet (ltb i (t .index)) _ _ (omega arith, omega arith)
@@ -68,7 +68,7 @@ module _ (b : List ℕ) (t : Trailer) where
       only-check OfSheet (leb (place + offered) (t .index)) _ _ (omega arith, omega arith)
       (only-then OfSheet (successorsFrom b t q offered place) _ (only-successors q offered place) (λ successors. tt))))))
 
-  only-states : (left q i : ℕ) → Only OfSheet (statesFrom b t left q i)
+  only-states : (left q i : ℕ) → OnlyRefused OfSheet (statesFrom b t left q i)
   unfolding statesFrom
   only-states zero q i = only-check OfSheet (eqb i (t .index)) _ _ (omega arith, omega arith) tt
   only-states (suc left) q i =
@@ -77,7 +77,7 @@ module _ (b : List ℕ) (t : Trailer) where
       (λ row. only-then OfSheet (statesFrom b t left (suc q) (row .behind)) _ (only-states left (suc q) (row .behind)) (λ states. tt)))
 
 -- a sheet is refused as 1 to 7
-pub sheet-numbers : (b : List ℕ) → Only OfSheet (readSheet b)
+pub sheet-numbers : (b : List ℕ) → OnlyRefused OfSheet (readSheet b)
 unfolding readSheet
 sheet-numbers b =
     let t = trailer b in
@@ -87,15 +87,15 @@ sheet-numbers b =
     (only-then OfSheet (statesFrom b t (t .count) 0 0) _ (only-states b t (t .count) 0 0) (λ states. tt))))
 
 abbrev OfBoth : Refusal → Type 0
-OfBoth r = Numbered 9 (r .number)
+OfBoth r = InTable 9 (r .number)
 
-only-place : (p : ℕ) (r : Reading Fault Sheet) → Only OfSheet r → Only OfBoth (inPlace p r)
+only-place : (p : ℕ) (r : Reading Fault Sheet) → OnlyRefused OfSheet r → OnlyRefused OfBoth (inPlace p r)
 unfolding inPlace
 only-place p (good s) o = tt
 only-place p (refusal f) o = (o .0, omega (arith, o .1))
 
 -- two sheets are refused as 1 to 9
-pub both-numbers : (role₁ role₂ : ℕ) (b₁ b₂ : List ℕ) → Only OfBoth (readBoth role₁ role₂ b₁ b₂)
+pub both-numbers : (role₁ role₂ : ℕ) (b₁ b₂ : List ℕ) → OnlyRefused OfBoth (readBoth role₁ role₂ b₁ b₂)
 unfolding readBoth plain
 both-numbers role₁ role₂ b₁ b₂ =
     only-then OfBoth (inPlace 1 (readSheet b₁)) _ (only-place 1 (readSheet b₁) (sheet-numbers b₁))

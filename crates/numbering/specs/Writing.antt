@@ -8,7 +8,7 @@ use Rattle.table.specs.declared.Record.{Record}
 use Rattle.table.specs.Lists.{numbersOf}
 use Rattle.table.specs.States.{SettledTable}
 use Rattle.numbering.specs.Numbered.{Numbers}
-use Rattle.numbering.specs.Table.{statesAt, rowAt, NumberedTable}
+use Rattle.numbering.specs.Table.{statesAt, keptRowAt, NumberedTable}
 
 -- bytes of the plan to write: its states are numbered, and the bytes fit into what is lent
 pub record ToWrite (bytes : List ℕ) (count states : ℕ) (ys : List Record) (out : List ℕ) : Type 0 where
@@ -23,4 +23,4 @@ pub record RowToWrite (count i : ℕ) (ys : List Record) (out : List ℕ) : Type
   -- the situation is a state
   pub state : List·Memᴰ i (statesAt count ys)
   -- its row fits into what is lent
-  pub room : length (rowBytes (rowAt count i ys)) ≤ length out
+  pub room : length (rowBytes (keptRowAt count i ys)) ≤ length out

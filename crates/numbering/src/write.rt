@@ -7,7 +7,7 @@ ghost use lib.ListN.{length};
 ghost use Rattle.model.specs.Plan.{moveBytes, rowBytes, rowsBytes, indexBytes};
 ghost use Rattle.keys.specs.Links.{codeAt};
 ghost use Rattle.little_endian.specs.Front.{front, Wrote};
-ghost use Rattle.numbering.specs.Table.{stateAt, rowAt, rowsAt, PlanState};
+ghost use Rattle.numbering.specs.Table.{stateAt, keptRowAt, keptRowsAt, PlanState};
 ghost use Rattle.numbering.specs.Writing.{ToWrite, RowToWrite};
 
 // A number of states as a place in a table.
@@ -59,7 +59,7 @@ pub fn state_at(work: &[table::Record], count: usize, states: u16, p: usize) -> 
 // How many bytes the row of the plan's state p has.
 pub fn row_length_at(work: &[table::Record], count: usize, states: u16, p: usize) -> u32
     requires state { ⌜ PlanState count states p (now work) ⌝ }
-    ensures measured { λ r. ⌜ r ≡ length (rowBytes (rowAt count (stateAt count p (now (work .entry))) (now (work .entry)))) ⌝ }
+    ensures measured { λ r. ⌜ r ≡ length (rowBytes (keptRowAt count (stateAt count p (now (work .entry))) (now (work .entry)))) ⌝ }
 {
     let i = state_at(work, count, states, p);
     let y = table::load(work, i);
@@ -78,7 +78,7 @@ pub fn write_move(out: &mut [u8], slot: usize, number: u16)
 // The row of a state's situation i, at the front of what is lent: its length.
 pub fn write_row(work: &[table::Record], count: usize, i: usize, out: &mut [u8]) -> usize
     requires writing { ⌜ RowToWrite count i (now work) (now out) ⌝ }
-    ensures written { λ r. ⌜ Wrote (rowBytes (rowAt count i (now (work .entry)))) r (now (out .entry)) (now (out .exit)) ⌝ }
+    ensures written { λ r. ⌜ Wrote (rowBytes (keptRowAt count i (now (work .entry)))) r (now (out .entry)) (now (out .exit)) ⌝ }
 {
     let y = table::load(work, i);
     let mut rest = table::fields::slots_of(y);
@@ -97,8 +97,8 @@ pub fn write_row(work: &[table::Record], count: usize, i: usize, out: &mut [u8])
 
 // The rows of the states, each into the rest of what is lent, directly behind the row before: their length.
 pub fn write_rows(work: &[table::Record], count: usize, states: u16, out: &mut [u8]) -> u32
-    requires writing { ⌜ ToWrite (rowsBytes (rowsAt count (now work))) count states (now work) (now out) ⌝ }
-    ensures written { λ r. ⌜ Wrote (rowsBytes (rowsAt count (now (work .entry)))) r (now (out .entry)) (now (out .exit)) ⌝ }
+    requires writing { ⌜ ToWrite (rowsBytes (keptRowsAt count (now work))) count states (now work) (now out) ⌝ }
+    ensures written { λ r. ⌜ Wrote (rowsBytes (keptRowsAt count (now (work .entry)))) r (now (out .entry)) (now (out .exit)) ⌝ }
 {
     let last = wide(states);
     let mut at: usize = 0;
@@ -113,8 +113,8 @@ pub fn write_rows(work: &[table::Record], count: usize, states: u16, out: &mut [
 
 // The index: the offset of each row, the first at 0.
 pub fn write_index(work: &[table::Record], count: usize, states: u16, out: &mut [u8])
-    requires writing { ⌜ ToWrite (indexBytes 0 (rowsAt count (now work))) count states (now work) (now out) ⌝ }
-    ensures written { λ _. ⌜ now (out .exit) ≡ front (indexBytes 0 (rowsAt count (now (work .entry)))) (now (out .entry)) ⌝ }
+    requires writing { ⌜ ToWrite (indexBytes 0 (keptRowsAt count (now work))) count states (now work) (now out) ⌝ }
+    ensures written { λ _. ⌜ now (out .exit) ≡ front (indexBytes 0 (keptRowsAt count (now (work .entry)))) (now (out .entry)) ⌝ }
 {
     let last = wide(states);
     let mut row: u32 = 0;

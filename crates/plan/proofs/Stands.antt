@@ -73,7 +73,7 @@ module _ (b : List ℕ) where
   rowPlace p = dword b (indexOf + 4 * p)
 
 -- what holds of bytes that are a plan: rows, index and trailer fill them, and row p stands at the place that the index says
-pub record Stands (b : List ℕ) : Type 0 where
+pub record PlanStands (b : List ℕ) : Type 0 where
   pub room : indexOf b + 4 * countOf b + 8 ≡ length b
   pub size : length (rowsIn b) ≡ countOf b
   pub within : (p : ℕ) → p < countOf b → rowPlace b p + 1 + 3 * byte b (rowPlace b p) ≤ indexOf b
@@ -87,7 +87,7 @@ rows-with b index count n k e =
     let m = map-elim _ (readRows b index count n count 0 0) (w .1) in
     subst (λ (p : Plan). Rows b index count n count 0 (p .rows)) (m .2) (rows-read b index count n count 0 0 (m .1))
 
-pub stands : (b : List ℕ) → isSome (readPlan b) ≡ true → Stands b
+pub stands : (b : List ℕ) → isSome (readPlan b) ≡ true → PlanStands b
 unfolding readPlan rowsIn rowsOf
 stands b e =
     let r = is-some-elim (readPlan b) e in
@@ -113,7 +113,7 @@ step-no-plan b p code e = rw (is-some-not (readPlan b) e)
 
 -- by numbers that were read from the bytes
 module _ (b : List ℕ) (plan : isSome (readPlan b) ≡ true) (count p : ℕ) (c : count ≡ word b (length b - 4)) where
-  s : Stands b
+  s : PlanStands b
   s = stands b plan
 
   pub step-no-state : (code : ℕ) → count ≤ p → record { number = 15; state = 0 } ≡ stepOf b p code

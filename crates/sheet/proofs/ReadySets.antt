@@ -9,7 +9,7 @@ use native.Mathlib.Omega.{arith}
 use lib.ListN.{length, getD, drop}
 use Rattle.model.specs.Contract.{state}
 use Rattle.model.specs.Sheet.{contractIn}
-use Rattle.model.proofs.Loops.{Decides, ended, decided, onward}
+use Rattle.model.proofs.Loops.{Decisive, ended, decided, onward}
 
 abbrev readyOf : List ℕ → ℕ → List ℕ
 readyOf b q = state (contractIn b) q .ready
@@ -26,7 +26,7 @@ pub sets-begin : {b : List ℕ} {q : ℕ} {over : List ℕ → Bool} {count : �
 sets-begin e = record { number = e; place = omega arith; rest = refl }
 
 module _ {b : List ℕ} {q : ℕ} {over : List ℕ → Bool} {count i : ℕ} (v : ReadySets b q over count i) where
-  module _ {p : ℕ → Bool} {stop : Bool} (by : Decides p over stop) where
+  module _ {p : ℕ → Bool} {stop : Bool} (by : Decisive p over stop) where
     -- no ready set decided
     pub sets-ended : count ≤ i → not stop ≡ over (readyOf b q)
     sets-ended h = ended by (readyOf b q) i (v .rest) (omega (arith, v .number))

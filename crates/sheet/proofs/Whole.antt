@@ -42,7 +42,7 @@ trailer-stands t h =
     }
 
 -- the sheet s stands in the bytes
-pub record Stands (b : List ℕ) (s : Sheet) : Type 0 where
+pub record SheetStands (b : List ℕ) (s : Sheet) : Type 0 where
   pub long : 6 ≤ length b
   pub numbers : TrailerStands (trailer b)
   pub ends : trailer b .index + 2 * trailer b .count + 6 ≡ length b
@@ -50,14 +50,14 @@ pub record Stands (b : List ℕ) (s : Sheet) : Type 0 where
   pub role : trailer b .role ≡ s .role
   pub states : StatesStand b (trailer b) 0 (trailer b .count) (s .contract .states)
 
-stands : (b : List ℕ) (s : Sheet) → readSheet b ≡ good s → Stands b s
+stands : (b : List ℕ) (s : Sheet) → readSheet b ≡ good s → SheetStands b s
 unfolding readSheet
 stands b s h =
     let sizes = check-true _ _ _ h in
     let numbers = check-true _ _ _ (sizes .1) in
     let ends = check-true _ _ _ (numbers .1) in
     let states = then-good _ _ (ends .1) in
-    subst (Stands b) (good-injective (states .2))
+    subst (SheetStands b) (good-injective (states .2))
     (record {
       long = leb-true _ _ (both-true (leb 6 (length b)) (leb (length b) 2118) (sizes .0) .0);
       numbers = trailer-stands (trailer b) (numbers .0);
@@ -68,10 +68,10 @@ stands b s h =
     })
 
 -- in bytes that are a sheet stands the sheet that the model reads
-pub sheet-stands : (b : List ℕ) → IsSheet b → Stands b (record { contract = contractIn b; role = roleIn b })
+pub sheet-stands : (b : List ℕ) → IsSheet b → SheetStands b (record { contract = contractIn b; role = roleIn b })
 unfolding contractIn roleIn sheetOf
 sheet-stands b (s, h) =
-    subst (λ (r : Reading Fault Sheet). Stands b (record { contract = sheetOf r .contract; role = sheetOf r .role }))
+    subst (λ (r : Reading Fault Sheet). SheetStands b (record { contract = sheetOf r .contract; role = sheetOf r .role }))
     (sym h)
     (stands b s h)
 

@@ -17,7 +17,7 @@ use Rattle.numbering.proofs.calls.NumberStates.{calls-number-states, number-sta
 use Rattle.numbering.proofs.number_states.Symbol as number-states-def
 use Rattle.numbering.proofs.number_states.Symbol.{name as #numbering·number-states}
 use Rattle.numbering.proofs.number_states.Met as number-states-thm
-use Rattle.numbering.specs.Table.{NumberedInto, UnnumberedTable, rowsAt, statesAt}
+use Rattle.numbering.specs.Table.{NumberedInto, UnnumberedTable, keptRowsAt, statesAt}
 use Rattle.numbering.proofs.calls.PlanLength.{calls-plan-length, plan-length-contract}
 use Rattle.numbering.proofs.plan_length.Symbol as plan-length-def
 use Rattle.numbering.proofs.plan_length.Symbol.{name as #numbering·plan-length}
@@ -113,7 +113,7 @@ module _ {M : Type 1} (𝓤 : URA M) (H : Heap 𝓤) (A : Atoms 𝓤) (W : Given
       abbrev En : Env 𝓤 H
       En = (Answer-laws.mir, l0) ∷ ((tyInt w8), l1) ∷ (τ0, l2) ∷ (τ1, l3) ∷ (τ2, l4) ∷ ((tyInt w64), l5) ∷ ((tyInt w16), l6) ∷ ((tyInt w16), l7) ∷ ((tyInt w32), l8) ∷ ((tyInt w8), l9) ∷ (τ3, l10) ∷ (τ4, l11) ∷ (τ5, l12) ∷ (τ6, l13) ∷ (tyBool, l14) ∷ ((tyInt w64), l15) ∷ (tyUnit, l16) ∷ (τ5, l17) ∷ (τ6, l18) ∷ (τ7, l19) ∷ (τ8, l20) ∷ []
 
-      part-10 : (states : ℕ) (ordered : List Record) (fits-states : states < 2 ^ 16) (same-ordered : length ordered ≡ length work) (numbered : NumberedInto count (statesAt count (work)) states (work) (ordered)) (size : ℕ) (fits-size : size < 2 ^ 32) (size-is : ((n k : ℕ) → size ≡ length (planBytes n k (rowsAt count (ordered))))) (enough : Bool) (enough-is : enough ≡ leb size (length plan)) (lacks-room : enough ≡ false) (answer : Answer) (is-answer : Is Answer-row.the-row answer (Answer-laws.lowered answer ∷ [])) (answer-is : answerOf answer ≡ counting 13 count states rounds 0) → Sq W (‵ (ShrSlice (named 0) κ-old u8 .own (lentAt b-old o-old γ-old old) (s-old ∷ [])) ∷ ‵ (flft κ-old q-old) ∷ ‵ (MutSlice (named 1) κ-work Record-row.the-row .own (lentAt b-work o-work γ-work ordered) (s-work ∷ [])) ∷ ‵ (flft κ-work q-work) ∷ ‵ (MutSlice (named 2) κ-plan u8 .own (lentAt b-plan o-plan γ-plan plan) (s-plan ∷ [])) ∷ ‵ (flft κ-plan q-plan) ∷ empty τ8 l20 (empty τ7 l19 (empty τ6 l18 (empty τ5 l17 (empty tyUnit l16 (empty (tyInt w64) l15 (empty tyBool l14 (empty τ6 l13 (empty τ5 l12 (empty τ4 l11 (empty τ3 l10 (empty (tyInt w8) l9 (empty (tyInt w32) l8 (empty (tyInt w16) l7 (empty (tyInt w16) l6 (empty (tyInt w64) l5 (empty τ2 l4 (empty τ1 l3 (empty τ0 l2 (empty (tyInt w8) l1 (full Answer-laws.mir l0 (Answer-laws.lowered answer) ([])))))))))))))))))))))) (runs (𝓣 .C) (𝓣 .Λ) En this-mir.t-11 (atRet En Ends))
+      part-10 : (states : ℕ) (ordered : List Record) (fits-states : states < 2 ^ 16) (same-ordered : length ordered ≡ length work) (numbered : NumberedInto count (statesAt count (work)) states (work) (ordered)) (size : ℕ) (fits-size : size < 2 ^ 32) (size-is : ((n k : ℕ) → size ≡ length (planBytes n k (keptRowsAt count (ordered))))) (enough : Bool) (enough-is : enough ≡ leb size (length plan)) (lacks-room : enough ≡ false) (answer : Answer) (is-answer : Is Answer-row.the-row answer (Answer-laws.lowered answer ∷ [])) (answer-is : answerOf answer ≡ counting 13 count states rounds 0) → Sq W (‵ (ShrSlice (named 0) κ-old u8 .own (lentAt b-old o-old γ-old old) (s-old ∷ [])) ∷ ‵ (flft κ-old q-old) ∷ ‵ (MutSlice (named 1) κ-work Record-row.the-row .own (lentAt b-work o-work γ-work ordered) (s-work ∷ [])) ∷ ‵ (flft κ-work q-work) ∷ ‵ (MutSlice (named 2) κ-plan u8 .own (lentAt b-plan o-plan γ-plan plan) (s-plan ∷ [])) ∷ ‵ (flft κ-plan q-plan) ∷ empty τ8 l20 (empty τ7 l19 (empty τ6 l18 (empty τ5 l17 (empty tyUnit l16 (empty (tyInt w64) l15 (empty tyBool l14 (empty τ6 l13 (empty τ5 l12 (empty τ4 l11 (empty τ3 l10 (empty (tyInt w8) l9 (empty (tyInt w32) l8 (empty (tyInt w16) l7 (empty (tyInt w16) l6 (empty (tyInt w64) l5 (empty τ2 l4 (empty τ1 l3 (empty τ0 l2 (empty (tyInt w8) l1 (full Answer-laws.mir l0 (Answer-laws.lowered answer) ([])))))))))))))))))))))) (runs (𝓣 .C) (𝓣 .Λ) En this-mir.t-11 (atRet En Ends))
       part-10 states ordered fits-states same-ordered numbered size fits-size size-is enough enough-is lacks-room answer is-answer answer-is =
           returns-within ! Ends refl (look ! 46 refl) $ released ! (‵ (ShrSlice (named 0) κ-old u8 .own (lentAt b-old o-old γ-old old) (s-old ∷ [])) ∷ ‵ (flft κ-old q-old) ∷ ‵ (MutSlice (named 1) κ-work Record-row.the-row .own (lentAt b-work o-work γ-work ordered) (s-work ∷ [])) ∷ ‵ (flft κ-work q-work) ∷ ‵ (MutSlice (named 2) κ-plan u8 .own (lentAt b-plan o-plan γ-plan plan) (s-plan ∷ [])) ∷ ‵ (flft κ-plan q-plan) ∷ []) (held Answer-laws.mir l0 (Answer-laws.lowered answer) ∷ bare (tyInt w8) l1 ∷ bare τ0 l2 ∷ bare τ1 l3 ∷ bare τ2 l4 ∷ bare (tyInt w64) l5 ∷ bare (tyInt w16) l6 ∷ bare (tyInt w16) l7 ∷ bare (tyInt w32) l8 ∷ bare (tyInt w8) l9 ∷ bare τ3 l10 ∷ bare τ4 l11 ∷ bare τ5 l12 ∷ bare τ6 l13 ∷ bare tyBool l14 ∷ bare (tyInt w64) l15 ∷ bare tyUnit l16 ∷ bare τ5 l17 ∷ bare τ6 l18 ∷ bare τ7 l19 ∷ bare τ8 l20 ∷ []) $ by ! (exits answer ordered plan is-answer (same-ordered ∙ refl) refl (plan-refused k old count rounds work unnumbered numbered size-is plan enough-is lacks-room answer-is))
 

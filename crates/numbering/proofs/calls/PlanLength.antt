@@ -4,7 +4,7 @@
 use Rattle.walks.proofs.Logic.{_≡_, refl, sym, ap, subst, ℕ, _<_, _^_, List, [], _∷_, length, URA, Place, Operand, Body, seq, call, named, w16, w32, w64, Val, vint, SProp, ent, id⊢, Lft, Share, ftrue, flft, Memory, Routine, Heap, Env, Calls, Loops, Atoms, Fun, fact, Given, Goal, Soaks, Item, Go, Sq, Post, runs, lands, settles, ‵, raw, _⊛_, some, later, ⋆, _$_, _∵_, !, qed, cut, move, drop, use1, split, join, pick, fsplit, fjoin, await, done, Opds, FmC, Is, shows, RefT, ShrSlice, uint-makes, uint-tells, u16, u32, usize, only, owned, heard, peeks, nothing, tripleOf, Contract, Triple, calls-at, calls-at-last, ensured, lasts, says}
 use Rattle.numbering.proofs.plan_length as callee
 use Rattle.numbering.proofs.plan_length.Symbol.{name as #numbering·plan-length}
-use Rattle.numbering.specs.Table.{NumberedTable, rowsAt}
+use Rattle.numbering.specs.Table.{NumberedTable, keptRowsAt}
 use Rattle.model.specs.Plan.{planBytes}
 use Rattle.table.proofs.Record as Record-row
 use Rattle.table.specs.declared.Record.{Record}
@@ -22,20 +22,20 @@ module _ {M : Type 1} (𝓤 : URA M) (H : Heap 𝓤) (A : Atoms 𝓤) (W : Given
       says ! needed $ nothing ! $ owned ! u16 (Is u16) (uint-makes 𝓤 H A W w16) states _ (refl, fits-states) $ fjoin ! $ owned ! usize (Is usize) (uint-makes 𝓤 H A W w64) count _ (refl, fits-count) $ fjoin ! $ move ! (2 ∷ 0 ∷ []) $ fjoin ! $ nothing ! $ move ! (2 ∷ 0 ∷ []) $ join ! $ done !
 
   module _ {Γ : List (Item 𝓤)} where
-    after : (goal· : Val → Goal 𝓤 H) → ((w· : Val) → Soaks (goal· w·)) → ((r : ℕ) → (r < 2 ^ 32) → ((n k : ℕ) → r ≡ length (planBytes n k (rowsAt count ((work .now))))) → Sq W (‵ (flft κ-work q-work) ∷ Γ) (goal· (vint w32 r))) → (w· : Val) → Sq W (raw (plan-length-contract 𝓤 H A mem run .post bound w·) ∷ Γ) (goal· w·)
+    after : (goal· : Val → Goal 𝓤 H) → ((w· : Val) → Soaks (goal· w·)) → ((r : ℕ) → (r < 2 ^ 32) → ((n k : ℕ) → r ≡ length (planBytes n k (keptRowsAt count ((work .now))))) → Sq W (‵ (flft κ-work q-work) ∷ Γ) (goal· (vint w32 r))) → (w· : Val) → Sq W (raw (plan-length-contract 𝓤 H A mem run .post bound w·) ∷ Γ) (goal· w·)
     after goal· soaks· k· w· =
         use1 W (later (some (λ (r : ℕ). ((‵ (flft κ-work q-work) ⊛ ‵ ftrue) ⊛ ‵ (u32 .own r (w· ∷ []))) ⊛ raw (ensured 𝓤 H A callee.ended (callee.clauses 𝓤 H A mem run) (κ-work, tt) (work, (count, (states, tt))) tt r)))) (id⊢ 𝓤 _) $ await ! (soaks· w·) $ pick ! (λ r. split ! $ move ! (1 ∷ []) $
-        use1 W (some (λ (ws· : Unit {0} × (Unit {0} × (Unit {0} × (Unit {0})))). ‵ (lasts callee.ended (κ-work, tt) (work, (count, (states, tt))) ws·) ⊛ raw (fact 𝓤 (((n k : ℕ) → r ≡ length (planBytes n k (rowsAt count ((work .now))))))))) (id⊢ 𝓤 _) $ pick ! (λ ws·. split ! $ move ! (1 ∷ []) $ heard ! (((n k : ℕ) → r ≡ length (planBytes n k (rowsAt count ((work .now)))))) (λ e·.
+        use1 W (some (λ (ws· : Unit {0} × (Unit {0} × (Unit {0} × (Unit {0})))). ‵ (lasts callee.ended (κ-work, tt) (work, (count, (states, tt))) ws·) ⊛ raw (fact 𝓤 (((n k : ℕ) → r ≡ length (planBytes n k (keptRowsAt count ((work .now))))))))) (id⊢ 𝓤 _) $ pick ! (λ ws·. split ! $ move ! (1 ∷ []) $ heard ! (((n k : ℕ) → r ≡ length (planBytes n k (keptRowsAt count ((work .now)))))) (λ e·.
         fsplit ! $ drop ! $ fsplit ! $ drop ! $ fsplit ! $ drop ! $ drop ! $ split ! $ move ! (1 ∷ []) $ peeks ! u32 (Is u32) (shows 𝓤 H A u32) r (w· ∷ []) (λ is·. drop ! $ split ! $ move ! (1 ∷ []) $ drop ! $
         subst (λ (u· : Val). Sq W (‵ (flft κ-work q-work) ∷ Γ) (goal· u·)) (sym (ap only (uint-tells w32 r (w· ∷ []) is·))) (k· r (subst (λ (us : List Val). Is u32 r us) (uint-tells w32 r (w· ∷ []) is·) is· .1) e·)))))
 
     module _ {C : Calls 𝓤 H} {Λ : Loops 𝓤 H} {E· : Env 𝓤 H} {p· : Post 𝓤 H} {d· : Place} {xs· : List Operand} where
       pub calls-plan-length : {rest· : Body} → FmC 𝓤 H (W .laws) C → Triple 𝓤 (C #numbering·plan-length) (plan-length-contract 𝓤 H A mem run) → (count < 2 ^ 64) → (states < 2 ^ 16) → (NumberedTable count states ((work .now))) → Opds (Go {0}) W (raw (plan-length-contract 𝓤 H A mem run .pre bound) ∷ Γ) E· xs· (s-work ∷ vint w64 count ∷ vint w16 states ∷ [])
-          → ((r : ℕ) → (r < 2 ^ 32) → ((n k : ℕ) → r ≡ length (planBytes n k (rowsAt count ((work .now))))) → Sq W (‵ (flft κ-work q-work) ∷ Γ) (lands C Λ E· d· (vint w32 r) rest· p·)) → Sq W (‵ (flft κ-work q-work) ∷ ‵ (ShrSlice (named 0) κ-work Record-row.the-row .own work (s-work ∷ [])) ∷ Γ) (runs C Λ E· (seq (call #numbering·plan-length xs· d·) rest·) p·)
+          → ((r : ℕ) → (r < 2 ^ 32) → ((n k : ℕ) → r ≡ length (planBytes n k (keptRowsAt count ((work .now))))) → Sq W (‵ (flft κ-work q-work) ∷ Γ) (lands C Λ E· d· (vint w32 r) rest· p·)) → Sq W (‵ (flft κ-work q-work) ∷ ‵ (ShrSlice (named 0) κ-work Record-row.the-row .own work (s-work ∷ [])) ∷ Γ) (runs C Λ E· (seq (call #numbering·plan-length xs· d·) rest·) p·)
       calls-plan-length {rest·} fm· known· fits-count fits-states needed operands· k· = cut {W = W} (‵ (flft κ-work q-work) ∷ ‵ (ShrSlice (named 0) κ-work Record-row.the-row .own work (s-work ∷ [])) ∷ []) (raw (plan-length-contract 𝓤 H A mem run .pre bound) ∷ []) Γ (goes fits-count fits-states needed) $
           calls-at ! fm· (plan-length-contract 𝓤 H A mem run) known· bound operands· (λ w·. after (λ u·. lands C Λ E· d· u· rest· p·) (λ u·. tt) k· w·)
 
       pub calls-plan-length-last : FmC 𝓤 H (W .laws) C → Triple 𝓤 (C #numbering·plan-length) (plan-length-contract 𝓤 H A mem run) → (count < 2 ^ 64) → (states < 2 ^ 16) → (NumberedTable count states ((work .now))) → Opds (Go {0}) W (raw (plan-length-contract 𝓤 H A mem run .pre bound) ∷ Γ) E· xs· (s-work ∷ vint w64 count ∷ vint w16 states ∷ [])
-          → ((r : ℕ) → (r < 2 ^ 32) → ((n k : ℕ) → r ≡ length (planBytes n k (rowsAt count ((work .now))))) → Sq W (‵ (flft κ-work q-work) ∷ Γ) (settles E· d· (vint w32 r) p·)) → Sq W (‵ (flft κ-work q-work) ∷ ‵ (ShrSlice (named 0) κ-work Record-row.the-row .own work (s-work ∷ [])) ∷ Γ) (runs C Λ E· (call #numbering·plan-length xs· d·) p·)
+          → ((r : ℕ) → (r < 2 ^ 32) → ((n k : ℕ) → r ≡ length (planBytes n k (keptRowsAt count ((work .now))))) → Sq W (‵ (flft κ-work q-work) ∷ Γ) (settles E· d· (vint w32 r) p·)) → Sq W (‵ (flft κ-work q-work) ∷ ‵ (ShrSlice (named 0) κ-work Record-row.the-row .own work (s-work ∷ [])) ∷ Γ) (runs C Λ E· (call #numbering·plan-length xs· d·) p·)
       calls-plan-length-last fm· known· fits-count fits-states needed operands· k· = cut {W = W} (‵ (flft κ-work q-work) ∷ ‵ (ShrSlice (named 0) κ-work Record-row.the-row .own work (s-work ∷ [])) ∷ []) (raw (plan-length-contract 𝓤 H A mem run .pre bound) ∷ []) Γ (goes fits-count fits-states needed) $
           calls-at-last ! fm· (plan-length-contract 𝓤 H A mem run) known· bound operands· (λ w·. after (λ u·. settles E· d· u· p·) (λ u·. tt) k· w·)

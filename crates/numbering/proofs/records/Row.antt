@@ -17,7 +17,7 @@ use Rattle.table.specs.declared.Record.{Record}
 use Rattle.table.specs.Records.{blank}
 use Rattle.table.specs.Lists.{slotsOf, linksOf, presentOf, marksOf, numbersOf}
 use Rattle.table.proofs.Lists.{numbers-at}
-use Rattle.numbering.specs.Table.{statesAt, rowAt}
+use Rattle.numbering.specs.Table.{statesAt, keptRowAt}
 use Rattle.numbering.specs.Writing.{RowToWrite}
 use Rattle.numbering.proofs.lists.Kept.{SettledLists, all-left}
 use Rattle.numbering.proofs.lists.Moves.{moveBy, state-below}
@@ -44,7 +44,7 @@ module _ {count i : ℕ} (work : List Record) {first : List ℕ} (writing : RowT
   row-there = omega (arith, here, writing .settled .room)
 
   pub count-room : 1 ≤ length first
-  count-room = Row.row-room (rowAt count i work) (writing .room)
+  count-room = Row.row-room (keptRowAt count i work) (writing .room)
 
   module _ {y : Record} (y-is : y ≡ getD work i blank) {slots : ℕ} (slots-are : slots ≡ slotsOf y) where
     held : slots ≡ slotsIn (presentOf work) i
@@ -55,7 +55,7 @@ module _ {count i : ℕ} (work : List Record) {first : List ℕ} (writing : RowT
 
     pub row-starts : {size : ℕ} → size ≡ ones slots → {begun : List ℕ} → begun ≡ front (size ∷ []) first
         → WritingRow count i work first begun 1 slots
-    unfolding rowAt
+    unfolding keptRowAt
     row-starts size-is begun-is =
         record {
           from = 0;
@@ -67,8 +67,8 @@ module _ {count i : ℕ} (work : List Record) {first : List ℕ} (writing : RowT
     pub row-within : at ≤ length out
     row-within = Row.row-within (on .moves)
 
-    pub row-ends : rest ≡ 0 → Wrote (rowBytes (rowAt count i work)) at first out
-    unfolding statesAt rowAt
+    pub row-ends : rest ≡ 0 → Wrote (rowBytes (keptRowAt count i work)) at first out
+    unfolding statesAt keptRowAt
     row-ends e = row-written lists (writing .state) (on .left) (on .moves) e
 
     module _ (some : rest ≡ 0 → ⊥) where

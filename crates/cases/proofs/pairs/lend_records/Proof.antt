@@ -64,7 +64,7 @@ room-work = (lit< tt, lit< tt)
 abbrev stayed : Stays (this.ended .signature .params) (this.ended .kept)
 stayed = (stay-none (λ _. u8) yes, (stay-none-slice (0 ∷ []) tt (plain (λ _. u8)) yes, (stay-none-slice (1 ∷ []) tt (plain (λ _. u8)) yes, (stay-none (λ _. usize) yes, (stay-slice (2 ∷ []) tt (plain (λ _. u8)), tt)))))
 
-module _ {M : Type 1} (𝓤 : URA M) (H : Heap 𝓤) (A : Atoms 𝓤) (W : Given 𝓤 H A) (mem : Memory → SProp 𝓤) (run : Routine → Fun 𝓤) (k : ℕ) (κ-old : Lft) (q-old : Share) (b-old o-old : ℕ) (γ-old : GName) (old : List ℕ) (κ-new : Lft) (q-new : Share) (b-new o-new : ℕ) (γ-new : GName) (new : List ℕ) (count : ℕ) (κ-plan : Lft) (q-plan : Share) (b-plan o-plan : ℕ) (γ-plan : GName) (plan : List ℕ) (fits-k : k < 2 ^ 8) (room-old : Room u8 (length old)) (room-new : Room u8 (length new)) (fits-count : count < 2 ^ 64) (room-plan : Room u8 (length plan)) (needed : count ≤ 5000) where
+module _ {M : Type 1} (𝓤 : URA M) (H : Heap 𝓤) (A : Atoms 𝓤) (W : Given 𝓤 H A) (mem : Memory → SProp 𝓤) (run : Routine → Fun 𝓤) (k : ℕ) (κ-old : Lft) (q-old : Share) (b-old o-old : ℕ) (γ-old : GName) (old : List ℕ) (κ-new : Lft) (q-new : Share) (b-new o-new : ℕ) (γ-new : GName) (new : List ℕ) (count : ℕ) (κ-plan : Lft) (q-plan : Share) (b-plan o-plan : ℕ) (γ-plan : GName) (plan : List ℕ) (fits-k : k < 2 ^ 8) (room-old : Room u8 (length old)) (room-new : Room u8 (length new)) (fits-count : count < 2 ^ 64) (room-plan : Room u8 (length plan)) (few : count ≤ 5000) where
   abbrev s-old : Val
   s-old = sliceVal (b-old, o-old) (length old)
 
@@ -109,11 +109,11 @@ module _ {M : Type 1} (𝓤 : URA M) (H : Heap 𝓤) (A : Atoms 𝓤) (W : Given
           assigns ! (agg ! (and-then ! (load ! (from ! (stop !)) (look ! 15 refl)) (and-then ! (load ! (from ! (stop !)) (look ! 22 refl)) (no-more !)))) (from ! (stop !)) (init ! 13 refl (tt, (tt, (record { fits = fits-count }, tt)))) $
           assigns ! (addr ! (from ! (fld ! refl (hop ! (look-in ! 20 (sub ! 0 refl (whole !))) (stop !))))) (from ! (stop !)) (init ! 11 refl (tt, tt)) $
           assigns ! (agg ! (and-then ! (load ! (from ! (stop !)) (look ! 11 refl)) (and-then ! (load ! (from ! (fld ! refl (stop !))) (look-in ! 20 (sub ! 1 refl (whole !)))) (no-more !)))) (from ! (stop !)) (init ! 9 refl (tt, (tt, (record { fits = room-plan .0 }, tt)))) $
-          share ! u8 (named 0) κ-old (lentAt b-old o-old γ-old old) (s-old ∷ []) (move ! (3 ∷ []) $ share ! u8 (named 1) κ-new (lentAt b-new o-new γ-new new) (s-new ∷ []) (move ! (8 ∷ 9 ∷ []) $ lend-front Record-row.the-row (ν-work ∷ []) fullShare γ-work l7 0 5000 count work long-work (needed) ! tt (named 0) (λ ν-3-work δ-3-work. move ! (9 ∷ 10 ∷ []) $ lend ! tt u8 (named 2) κ-plan q-plan γ-plan b-plan o-plan (length plan) plan refl (λ ν-3-plan δ-3-plan. move ! (10 ∷ 8 ∷ 11 ∷ 6 ∷ 3 ∷ 4 ∷ 0 ∷ 1 ∷ []) $
+          share ! u8 (named 0) κ-old (lentAt b-old o-old γ-old old) (s-old ∷ []) (move ! (3 ∷ []) $ share ! u8 (named 1) κ-new (lentAt b-new o-new γ-new new) (s-new ∷ []) (move ! (8 ∷ 9 ∷ []) $ lend-front Record-row.the-row (ν-work ∷ []) fullShare γ-work l7 0 5000 count work long-work (few) ! tt (named 0) (λ ν-3-work δ-3-work. move ! (9 ∷ 10 ∷ []) $ lend ! tt u8 (named 2) κ-plan q-plan γ-plan b-plan o-plan (length plan) plan refl (λ ν-3-plan δ-3-plan. move ! (10 ∷ 8 ∷ 11 ∷ 6 ∷ 3 ∷ 4 ∷ 0 ∷ 1 ∷ []) $
           calls-connect-lent 𝓤 H A W mem run k κ-old q-old (lentAt b-old o-old γ-old old) s-old κ-new q-new (lentAt b-new o-new γ-new new) s-new (ν-3-work ∷ []) fullShare (lentAt l7 0 δ-3-work (frontOf count work)) (sliceVal (l7, 0) count) (ν-3-plan ∷ []) fullShare (lentAt b-plan o-plan δ-3-plan plan) s-plan (fmOf 𝓤 H (W .laws) 𝓣) known-connect-lent fits-k
           (and-then ! (load ! (from ! (stop !)) (look ! 25 refl)) (and-then ! (load ! (from ! (stop !)) (look ! 23 refl)) (and-then ! (load ! (from ! (stop !)) (look ! 21 refl)) (and-then ! (load ! (from ! (stop !)) (look ! 10 refl)) (and-then ! (load ! (from ! (stop !)) (look ! 6 refl)) (no-more !)))))) (λ given left written is-given same-left same-written said.
-          move ! (2 ∷ 7 ∷ 3 ∷ []) $ regain-front Record-row.the-row (ν-work ∷ []) fullShare γ-work l7 0 5000 count work long-work (needed) ! tt (named 0) ν-3-work δ-3-work left (move ! (4 ∷ 6 ∷ 5 ∷ []) $ regain ! tt u8 (named 2) κ-plan q-plan γ-plan b-plan o-plan (length plan) plan refl ν-3-plan δ-3-plan written room-plan same-written (move ! (7 ∷ 4 ∷ 6 ∷ 5 ∷ 0 ∷ 1 ∷ 2 ∷ 3 ∷ []) $ land ! (from ! (stop !)) (init ! 30 refl (LL.lawful Outcome-row.the-type Outcome-laws.the-laws 𝓤 H A W .typed given _ is-given .0)) $
-          move ! (6 ∷ 7 ∷ 8 ∷ []) $ close-table ! tt Record-row.the-row 5000 l7 ν-work γ-work (withFront count work left) (returns-within ! Ends refl (look ! 28 refl) $ move ! (1 ∷ 2 ∷ 3 ∷ 4 ∷ 5 ∷ 6 ∷ 7 ∷ 8 ∷ 9 ∷ 10 ∷ 11 ∷ 12 ∷ 13 ∷ 14 ∷ []) $ released ! (‵ (ShrSlice (named 0) κ-old u8 .own (lentAt b-old o-old γ-old old) (s-old ∷ [])) ∷ ‵ (flft κ-old q-old) ∷ ‵ (ShrSlice (named 1) κ-new u8 .own (lentAt b-new o-new γ-new new) (s-new ∷ [])) ∷ ‵ (flft κ-new q-new) ∷ ‵ (MutSlice (named 2) κ-plan u8 .own (lentAt b-plan o-plan γ-plan written) (s-plan ∷ [])) ∷ ‵ (flft κ-plan q-plan) ∷ []) (held Outcome-laws.mir l0 (Outcome-laws.lowered given) ∷ held (tyInt w8) l1 (vint w8 k) ∷ held τ0 l2 (s-old) ∷ held τ1 l3 (s-new) ∷ held (tyInt w64) l4 (vint w64 count) ∷ held τ2 l5 (s-plan) ∷ held Record-laws.mir l6 (Record-laws.lowered y) ∷ bare τ3 l7 ∷ held τ4 l8 (vptr l7 0) ∷ held τ5 l9 (sliceVal (l7, 0) count) ∷ held τ6 l10 (vptr b-plan o-plan) ∷ held τ7 l11 (s-plan) ∷ []) $ by ! (exits given written is-given (same-written ∙ refl) (subst (λ (t : List Record). Gives (connectOf blank k old new t plan) given written) (front-made count 5000 y work needed made-work is-before) said))))))))))))
+          move ! (2 ∷ 7 ∷ 3 ∷ []) $ regain-front Record-row.the-row (ν-work ∷ []) fullShare γ-work l7 0 5000 count work long-work (few) ! tt (named 0) ν-3-work δ-3-work left (move ! (4 ∷ 6 ∷ 5 ∷ []) $ regain ! tt u8 (named 2) κ-plan q-plan γ-plan b-plan o-plan (length plan) plan refl ν-3-plan δ-3-plan written room-plan same-written (move ! (7 ∷ 4 ∷ 6 ∷ 5 ∷ 0 ∷ 1 ∷ 2 ∷ 3 ∷ []) $ land ! (from ! (stop !)) (init ! 30 refl (LL.lawful Outcome-row.the-type Outcome-laws.the-laws 𝓤 H A W .typed given _ is-given .0)) $
+          move ! (6 ∷ 7 ∷ 8 ∷ []) $ close-table ! tt Record-row.the-row 5000 l7 ν-work γ-work (withFront count work left) (returns-within ! Ends refl (look ! 28 refl) $ move ! (1 ∷ 2 ∷ 3 ∷ 4 ∷ 5 ∷ 6 ∷ 7 ∷ 8 ∷ 9 ∷ 10 ∷ 11 ∷ 12 ∷ 13 ∷ 14 ∷ []) $ released ! (‵ (ShrSlice (named 0) κ-old u8 .own (lentAt b-old o-old γ-old old) (s-old ∷ [])) ∷ ‵ (flft κ-old q-old) ∷ ‵ (ShrSlice (named 1) κ-new u8 .own (lentAt b-new o-new γ-new new) (s-new ∷ [])) ∷ ‵ (flft κ-new q-new) ∷ ‵ (MutSlice (named 2) κ-plan u8 .own (lentAt b-plan o-plan γ-plan written) (s-plan ∷ [])) ∷ ‵ (flft κ-plan q-plan) ∷ []) (held Outcome-laws.mir l0 (Outcome-laws.lowered given) ∷ held (tyInt w8) l1 (vint w8 k) ∷ held τ0 l2 (s-old) ∷ held τ1 l3 (s-new) ∷ held (tyInt w64) l4 (vint w64 count) ∷ held τ2 l5 (s-plan) ∷ held Record-laws.mir l6 (Record-laws.lowered y) ∷ bare τ3 l7 ∷ held τ4 l8 (vptr l7 0) ∷ held τ5 l9 (sliceVal (l7, 0) count) ∷ held τ6 l10 (vptr b-plan o-plan) ∷ held τ7 l11 (s-plan) ∷ []) $ by ! (exits given written is-given (same-written ∙ refl) (subst (λ (t : List Record). Gives (connectOf blank k old new t plan) given written) (front-made count 5000 y work few made-work is-before) said))))))))))))
 
     walk : ent 𝓤 (onEntry 𝓤 H A this.signature (κ-old, (κ-new, (κ-plan, tt))) (q-old, (q-new, (q-plan, tt))) args machine) (WpFn 𝓤 H (𝓣 .C) (𝓣 .Λ) this-code.function (vint w8 k ∷ s-old ∷ s-new ∷ vint w64 count ∷ s-plan ∷ []) Ends)
     walk =

@@ -15,7 +15,7 @@ use Rattle.numbering.proofs.calls.WriteStateAt.{calls-state-at, state-a
 use Rattle.numbering.proofs.write.state_at.Symbol as state-at-def
 use Rattle.numbering.proofs.write.state_at.Symbol.{name as #numbering·write·state-at}
 use Rattle.numbering.proofs.write.state_at.Met as state-at-thm
-use Rattle.numbering.specs.Table.{PlanState, rowAt, stateAt}
+use Rattle.numbering.specs.Table.{PlanState, keptRowAt, stateAt}
 use Rattle.table.proofs.calls.Load.{calls-load, load-contract}
 use Rattle.table.proofs.load.Symbol as load-def
 use Rattle.table.proofs.load.Symbol.{name as #table·load}
@@ -53,7 +53,7 @@ module _ {M : Type 1} (𝓤 : URA M) (H : Heap 𝓤) (A : Atoms 𝓤) (W : Given
   Ends = walkOf 𝓤 H A this.ended stayed (this.clauses 𝓤 H A mem run) .post (((κ-work, tt), (q-work, tt), tt, args, machine), tt)
 
   -- what is had at an exit
-  exits : (r : ℕ) (fits-res : r < 2 ^ 32) (said : r ≡ length (rowBytes (rowAt count (stateAt count p (work)) (work)))) → ent 𝓤 (⋆ 𝓤 H A (‵ (ShrSlice (named 0) κ-work Record-row.the-row .own (lentAt b-work o-work γ-work work) (s-work ∷ [])) ∷ ‵ (flft κ-work q-work) ∷ [])) (Ends (vint w32 r))
+  exits : (r : ℕ) (fits-res : r < 2 ^ 32) (said : r ≡ length (rowBytes (keptRowAt count (stateAt count p (work)) (work)))) → ent 𝓤 (⋆ 𝓤 H A (‵ (ShrSlice (named 0) κ-work Record-row.the-row .own (lentAt b-work o-work γ-work work) (s-work ∷ [])) ∷ ‵ (flft κ-work q-work) ∷ [])) (Ends (vint w32 r))
   exits r fits-res said =
       qed W (‵ (ShrSlice (named 0) κ-work Record-row.the-row .own (lentAt b-work o-work γ-work work) (s-work ∷ [])) ∷ ‵ (flft κ-work q-work) ∷ []) ∵
       suffices ! _ (ends-at 𝓤 H A this.ended stayed (this.clauses 𝓤 H A mem run) W (((κ-work, tt), (q-work, tt), tt, args, machine), tt) (vint w32 r) r (tt, (tt, (tt, (tt, tt)))) (tt, (tt, (tt, (tt, tt))))) $ says ! said $

@@ -25,7 +25,7 @@ use Rattle.numbering.proofs.calls.WriteRowLengthAt.{calls-row-length-at
 use Rattle.numbering.proofs.write.row_length_at.Symbol as row-length-at-def
 use Rattle.numbering.proofs.write.row_length_at.Symbol.{name as #numbering·write·row-length-at}
 use Rattle.numbering.proofs.write.row_length_at.Met as row-length-at-thm
-use Rattle.numbering.specs.Table.{rowsAt}
+use Rattle.numbering.specs.Table.{keptRowsAt}
 use Rattle.model.specs.Plan.{indexBytes}
 use Rattle.numbering.proofs.lists.Parts.{WritingIndex, entry-room, index-begun, index-next, index-place, index-within, index-written}
 use Rattle.numbering.proofs.records.States.{more-few, next-row, next-state, plan-few, rows-done}
@@ -48,7 +48,7 @@ abbrev τ3 : Ty
 abbrev stayed : Stays (this.ended .signature .params) (this.ended .kept)
 stayed = (stay-none-slice (0 ∷ []) tt (plain (λ _. Record-row.the-row)) yes, (stay-none (λ _. usize) yes, (stay-none (λ _. u16) yes, (stay-slice (1 ∷ []) tt (plain (λ _. u8)), tt))))
 
-module _ {M : Type 1} (𝓤 : URA M) (H : Heap 𝓤) (A : Atoms 𝓤) (W : Given 𝓤 H A) (mem : Memory → SProp 𝓤) (run : Routine → Fun 𝓤) (κ-work : Lft) (q-work : Share) (b-work o-work : ℕ) (γ-work : GName) (work : List Record) (count : ℕ) (states : ℕ) (κ-out : Lft) (q-out : Share) (b-out o-out : ℕ) (γ-out : GName) (out : List ℕ) (room-work : Room Record-row.the-row (length work)) (fits-count : count < 2 ^ 64) (fits-states : states < 2 ^ 16) (room-out : Room u8 (length out)) (writing : ToWrite (indexBytes 0 (rowsAt count (work))) count states (work) (out)) where
+module _ {M : Type 1} (𝓤 : URA M) (H : Heap 𝓤) (A : Atoms 𝓤) (W : Given 𝓤 H A) (mem : Memory → SProp 𝓤) (run : Routine → Fun 𝓤) (κ-work : Lft) (q-work : Share) (b-work o-work : ℕ) (γ-work : GName) (work : List Record) (count : ℕ) (states : ℕ) (κ-out : Lft) (q-out : Share) (b-out o-out : ℕ) (γ-out : GName) (out : List ℕ) (room-work : Room Record-row.the-row (length work)) (fits-count : count < 2 ^ 64) (fits-states : states < 2 ^ 16) (room-out : Room u8 (length out)) (writing : ToWrite (indexBytes 0 (keptRowsAt count (work))) count states (work) (out)) where
   abbrev s-work : Val
   s-work = sliceVal (b-work, o-work) (length work)
 
@@ -68,7 +68,7 @@ module _ {M : Type 1} (𝓤 : URA M) (H : Heap 𝓤) (A : Atoms 𝓤) (W : Given
   Ends = walkOf 𝓤 H A this.ended stayed (this.clauses 𝓤 H A mem run) .post (((κ-work, (κ-out, tt)), (q-work, (q-out, tt)), tt, args, machine), tt)
 
   -- what is had at an exit
-  exits : (out′ : List ℕ) (long-out : length out′ ≡ length out) (said : out′ ≡ front (indexBytes 0 (rowsAt count (work))) (out)) → ent 𝓤 (⋆ 𝓤 H A (‵ (ShrSlice (named 0) κ-work Record-row.the-row .own (lentAt b-work o-work γ-work work) (s-work ∷ [])) ∷ ‵ (flft κ-work q-work) ∷ ‵ (MutSlice (named 1) κ-out u8 .own (lentAt b-out o-out γ-out out′) (s-out ∷ [])) ∷ ‵ (flft κ-out q-out) ∷ [])) (Ends (vunit))
+  exits : (out′ : List ℕ) (long-out : length out′ ≡ length out) (said : out′ ≡ front (indexBytes 0 (keptRowsAt count (work))) (out)) → ent 𝓤 (⋆ 𝓤 H A (‵ (ShrSlice (named 0) κ-work Record-row.the-row .own (lentAt b-work o-work γ-work work) (s-work ∷ [])) ∷ ‵ (flft κ-work q-work) ∷ ‵ (MutSlice (named 1) κ-out u8 .own (lentAt b-out o-out γ-out out′) (s-out ∷ [])) ∷ ‵ (flft κ-out q-out) ∷ [])) (Ends (vunit))
   exits out′ long-out said =
       qed W (‵ (ShrSlice (named 0) κ-work Record-row.the-row .own (lentAt b-work o-work γ-work work) (s-work ∷ [])) ∷ ‵ (flft κ-work q-work) ∷ ‵ (MutSlice (named 1) κ-out u8 .own (lentAt b-out o-out γ-out out′) (s-out ∷ [])) ∷ ‵ (flft κ-out q-out) ∷ []) ∵
       suffices ! _ (ends-at 𝓤 H A this.ended stayed (this.clauses 𝓤 H A mem run) W (((κ-work, (κ-out, tt)), (q-work, (q-out, tt)), tt, args, machine), tt) (vunit) tt (tt, (tt, (tt, (out′, tt)))) (tt, (tt, (tt, (long-out, tt))))) $ says ! said $
@@ -76,7 +76,7 @@ module _ {M : Type 1} (𝓤 : URA M) (H : Heap 𝓤) (A : Atoms 𝓤) (W : Given
 
   -- what the loop's head knows
   abbrev State : Type 0
-  State = (row : ℕ) × ((at : ℕ) × ((p : ℕ) × ((outs : List ℕ) × ((row < 2 ^ 32) × ((at < 2 ^ 64) × ((p < 2 ^ 64) × ((length outs ≡ length out) × ((WritingIndex (rowsAt count work) p row at out outs)))))))))
+  State = (row : ℕ) × ((at : ℕ) × ((p : ℕ) × ((outs : List ℕ) × ((row < 2 ^ 32) × ((at < 2 ^ 64) × ((p < 2 ^ 64) × ((length outs ≡ length out) × ((WritingIndex (keptRowsAt count work) p row at out outs)))))))))
 
   abbrev measure : ℕ → ℕ → ℕ → (List ℕ) → ℕ
   measure row at p outs = states - p
@@ -102,7 +102,7 @@ module _ {M : Type 1} (𝓤 : URA M) (H : Heap 𝓤) (A : Atoms 𝓤) (W : Given
         abbrev Turned : State → Out → SProp 𝓤
         Turned t = afterTurn 𝓤 H (Below 𝓤 H A Nearer At t) (afterBlock 𝓤 H (afterSeq 𝓤 H (Wp 𝓤 H (𝓣 .C) (𝓣 .Λ) En this-mir.t-6 (atReturn 𝓤 H En Ends)) (atReturn 𝓤 H En Ends)))
 
-        turn : (row : ℕ) (at : ℕ) (p : ℕ) (outs : List ℕ) (fits-row : row < 2 ^ 32) (fits-at : at < 2 ^ 64) (fits-p : p < 2 ^ 64) (long-outs : length outs ≡ length out) (known : WritingIndex (rowsAt count work) p row at out outs) → Sq W (head row at p outs) (runs (𝓣 .C) (𝓣 .Λ) En this-mir.turn-1 (anyQ (Turned (row, (at, (p, (outs, (fits-row, (fits-at, (fits-p, (long-outs, (known))))))))))))
+        turn : (row : ℕ) (at : ℕ) (p : ℕ) (outs : List ℕ) (fits-row : row < 2 ^ 32) (fits-at : at < 2 ^ 64) (fits-p : p < 2 ^ 64) (long-outs : length outs ≡ length out) (known : WritingIndex (keptRowsAt count work) p row at out outs) → Sq W (head row at p outs) (runs (𝓣 .C) (𝓣 .Λ) En this-mir.turn-1 (anyQ (Turned (row, (at, (p, (outs, (fits-row, (fits-at, (fits-p, (long-outs, (known))))))))))))
         unfolding afterTurn
         turn row at p outs fits-row fits-at fits-p long-outs known =
             assigns ! (bin ! (load ! (from ! (stop !)) (look ! 18 refl)) (load ! (from ! (stop !)) (look ! 24 refl)) tt) (from ! (stop !)) (init ! 16 refl (tt, tt)) $
@@ -138,7 +138,7 @@ module _ {M : Type 1} (𝓤 : URA M) (H : Heap 𝓤) (A : Atoms 𝓤) (W : Given
           assigns ! (of-opd ! (lit ! tt)) (from ! (stop !)) (init ! 22 refl (tt, record { fits = lit< tt })) $
           assigns ! (of-opd ! (lit ! tt)) (from ! (stop !)) (init ! 20 refl (tt, record { fits = lit< tt })) $
           assigns ! (of-opd ! (lit ! tt)) (from ! (stop !)) (init ! 18 refl (tt, record { fits = lit< tt })) $
-          first ! $ blocks ! $ loops ! 𝓣 Nearer Nearer-wf (At last fits-last last-is) (turns last fits-last last-is) (0, (0, (0, (out, (lit< tt, (lit< tt, (lit< tt, (refl, (index-begun (rowsAt count work) out))))))))))
+          first ! $ blocks ! $ loops ! 𝓣 Nearer Nearer-wf (At last fits-last last-is) (turns last fits-last last-is) (0, (0, (0, (out, (lit< tt, (lit< tt, (lit< tt, (refl, (index-begun (keptRowsAt count work) out))))))))))
 
     walk : ent 𝓤 (onEntry 𝓤 H A this.signature (κ-work, (κ-out, tt)) (q-work, (q-out, tt)) args machine) (WpFn 𝓤 H (𝓣 .C) (𝓣 .Λ) this-code.function (s-work ∷ vint w64 count ∷ vint w16 states ∷ s-out ∷ []) Ends)
     walk =
@@ -150,7 +150,7 @@ module _ {M : Type 1} (𝓤 : URA M) (H : Heap 𝓤) (A : Atoms 𝓤) (W : Given
 module _ {M : Type 1} (𝓤 : URA M) (H : Heap 𝓤) (A : Atoms 𝓤) (W : Given 𝓤 H A) (mem : Memory → SProp 𝓤) (run : Routine → Fun 𝓤) where
   write-index-walks : (𝓣 : Tables 𝓤 H) → Triple 𝓤 (𝓣 .C #numbering·write·wide) (wide-contract 𝓤 H A mem run) → Triple 𝓤 (𝓣 .C #little-endian·put-dword) (put-dword-contract 𝓤 H A mem run) → Triple 𝓤 (𝓣 .C #numbering·write·row-length-at) (row-length-at-contract 𝓤 H A mem run) → Walks 𝓤 H A this.ended stayed (WpFn 𝓤 H (𝓣 .C) (𝓣 .Λ) this-code.function) (this.clauses 𝓤 H A mem run)
   write-index-walks 𝓣 known-wide known-put-dword known-row-length-at = walked 𝓤 H A this.ended stayed (this.clauses 𝓤 H A mem run) (WpFn 𝓤 H (𝓣 .C) (𝓣 .Λ) this-code.function)
-      (λ κs. (slice-vals, (uint-vals w64, (uint-vals w16, (slice-vals, tt))))) (λ κs. (shr-slice-tells (named 0) (κs .0) Record-row.the-row, (uint-tells w64, (uint-tells w16, (mut-slice-tells (named 1) (κs .1 .0) u8, tt))))) (λ κs qs bounds a g are. needs 𝓤 (ToWrite (indexBytes 0 (rowsAt (a .1 .0) ((a .0 .now)))) (a .1 .0) (a .1 .1 .0) ((a .0 .now)) ((a .1 .1 .1 .0 .now))) _ (λ needed. walk 𝓤 H A W mem run (κs .0) (qs .0) (a .0 .ptr .0) (a .0 .ptr .1) (a .0 .name) (a .0 .now) (a .1 .0) (a .1 .1 .0) (κs .1 .0) (qs .1 .0) (a .1 .1 .1 .0 .ptr .0) (a .1 .1 .1 .0 .ptr .1) (a .1 .1 .1 .0 .name) (a .1 .1 .1 .0 .now) (are .0 .0 .1) (are .1 .0 .1) (are .1 .1 .0 .1) (are .1 .1 .1 .0 .0 .1) needed 𝓣 known-wide known-put-dword known-row-length-at))
+      (λ κs. (slice-vals, (uint-vals w64, (uint-vals w16, (slice-vals, tt))))) (λ κs. (shr-slice-tells (named 0) (κs .0) Record-row.the-row, (uint-tells w64, (uint-tells w16, (mut-slice-tells (named 1) (κs .1 .0) u8, tt))))) (λ κs qs bounds a g are. needs 𝓤 (ToWrite (indexBytes 0 (keptRowsAt (a .1 .0) ((a .0 .now)))) (a .1 .0) (a .1 .1 .0) ((a .0 .now)) ((a .1 .1 .1 .0 .now))) _ (λ needed. walk 𝓤 H A W mem run (κs .0) (qs .0) (a .0 .ptr .0) (a .0 .ptr .1) (a .0 .name) (a .0 .now) (a .1 .0) (a .1 .1 .0) (κs .1 .0) (qs .1 .0) (a .1 .1 .1 .0 .ptr .0) (a .1 .1 .1 .0 .ptr .1) (a .1 .1 .1 .0 .name) (a .1 .1 .1 .0 .now) (are .0 .0 .1) (are .1 .0 .1) (are .1 .1 .0 .1) (are .1 .1 .1 .0 .0 .1) needed 𝓣 known-wide known-put-dword known-row-length-at))
 
   write-index-meets : (𝓣 : Tables 𝓤 H) → Triple 𝓤 (𝓣 .C #numbering·write·wide) (wide-contract 𝓤 H A mem run) → Triple 𝓤 (𝓣 .C #little-endian·put-dword) (put-dword-contract 𝓤 H A mem run) → Triple 𝓤 (𝓣 .C #numbering·write·row-length-at) (row-length-at-contract 𝓤 H A mem run) → Meets 𝓤 H A this.signature (WpFn 𝓤 H (𝓣 .C) (𝓣 .Λ) this-code.function) (this.spec 𝓤 H A mem run)
   write-index-meets 𝓣 known-wide known-put-dword known-row-length-at = walk-meets 𝓤 H A this.ended stayed W (goes-none-slice 𝓤 H A W 2 (0 ∷ []) tt (plain (λ _. Record-row.the-row)) yes, (goes-none 𝓤 H A W 2 (λ _. usize) yes (λ κs x f. refl), (goes-none 𝓤 H A W 2 (λ _. u16) yes (λ κs x f. refl), (goes-slice 𝓤 H A W 2 1 tt (plain (λ _. u8)), tt)))) (this.clauses 𝓤 H A mem run)

@@ -56,7 +56,7 @@ use Rattle.keys.proofs.without_lowest.Symbol.{name as #keys·without-lowest}
 use Rattle.keys.proofs.without_lowest.Met as without-lowest-thm
 use Rattle.numbering.proofs.records.Row.{WritingRow, count-room, count-small, link-named, move-needs, move-small, row-ends, row-nearer, row-on, row-starts, row-there, row-within, slot-small, target-there}
 use Rattle.numbering.specs.Writing.{RowToWrite}
-use Rattle.numbering.specs.Table.{rowAt}
+use Rattle.numbering.specs.Table.{keptRowAt}
 use Rattle.table.proofs.Record as Record-row
 use Rattle.table.proofs.Record.Laws as Record-laws
 use Rattle.table.specs.declared.Record.{Record}
@@ -96,7 +96,7 @@ module _ {M : Type 1} (𝓤 : URA M) (H : Heap 𝓤) (A : Atoms 𝓤) (W : Given
   Ends = walkOf 𝓤 H A this.ended stayed (this.clauses 𝓤 H A mem run) .post (((κ-work, (κ-out, tt)), (q-work, (q-out, tt)), tt, args, machine), tt)
 
   -- what is had at an exit
-  exits : (r : ℕ) (out′ : List ℕ) (fits-res : r < 2 ^ 64) (long-out : length out′ ≡ length out) (said : Wrote (rowBytes (rowAt count i (work))) r (out) (out′)) → ent 𝓤 (⋆ 𝓤 H A (‵ (ShrSlice (named 0) κ-work Record-row.the-row .own (lentAt b-work o-work γ-work work) (s-work ∷ [])) ∷ ‵ (flft κ-work q-work) ∷ ‵ (MutSlice (named 1) κ-out u8 .own (lentAt b-out o-out γ-out out′) (s-out ∷ [])) ∷ ‵ (flft κ-out q-out) ∷ [])) (Ends (vint w64 r))
+  exits : (r : ℕ) (out′ : List ℕ) (fits-res : r < 2 ^ 64) (long-out : length out′ ≡ length out) (said : Wrote (rowBytes (keptRowAt count i (work))) r (out) (out′)) → ent 𝓤 (⋆ 𝓤 H A (‵ (ShrSlice (named 0) κ-work Record-row.the-row .own (lentAt b-work o-work γ-work work) (s-work ∷ [])) ∷ ‵ (flft κ-work q-work) ∷ ‵ (MutSlice (named 1) κ-out u8 .own (lentAt b-out o-out γ-out out′) (s-out ∷ [])) ∷ ‵ (flft κ-out q-out) ∷ [])) (Ends (vint w64 r))
   exits r out′ fits-res long-out said =
       qed W (‵ (ShrSlice (named 0) κ-work Record-row.the-row .own (lentAt b-work o-work γ-work work) (s-work ∷ [])) ∷ ‵ (flft κ-work q-work) ∷ ‵ (MutSlice (named 1) κ-out u8 .own (lentAt b-out o-out γ-out out′) (s-out ∷ [])) ∷ ‵ (flft κ-out q-out) ∷ []) ∵
       suffices ! _ (ends-at 𝓤 H A this.ended stayed (this.clauses 𝓤 H A mem run) W (((κ-work, (κ-out, tt)), (q-work, (q-out, tt)), tt, args, machine), tt) (vint w64 r) r (tt, (tt, (tt, (out′, tt)))) (tt, (tt, (tt, (long-out, tt))))) $ says ! said $

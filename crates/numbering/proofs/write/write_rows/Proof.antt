@@ -20,7 +20,7 @@ use Rattle.numbering.proofs.calls.WriteStateAt.{calls-state-at, state-a
 use Rattle.numbering.proofs.write.state_at.Symbol as state-at-def
 use Rattle.numbering.proofs.write.state_at.Symbol.{name as #numbering·write·state-at}
 use Rattle.numbering.proofs.write.state_at.Met as state-at-thm
-use Rattle.numbering.specs.Table.{rowsAt}
+use Rattle.numbering.specs.Table.{keptRowsAt}
 use Rattle.numbering.proofs.calls.WriteWriteRow.{calls-write-row, write-row-contract}
 use Rattle.numbering.proofs.write.write_row.Symbol as write-row-def
 use Rattle.numbering.proofs.write.write_row.Symbol.{name as #numbering·write·write-row}
@@ -52,7 +52,7 @@ abbrev τ3 : Ty
 abbrev stayed : Stays (this.ended .signature .params) (this.ended .kept)
 stayed = (stay-none-slice (0 ∷ []) tt (plain (λ _. Record-row.the-row)) yes, (stay-none (λ _. usize) yes, (stay-none (λ _. u16) yes, (stay-slice (1 ∷ []) tt (plain (λ _. u8)), tt))))
 
-module _ {M : Type 1} (𝓤 : URA M) (H : Heap 𝓤) (A : Atoms 𝓤) (W : Given 𝓤 H A) (mem : Memory → SProp 𝓤) (run : Routine → Fun 𝓤) (κ-work : Lft) (q-work : Share) (b-work o-work : ℕ) (γ-work : GName) (work : List Record) (count : ℕ) (states : ℕ) (κ-out : Lft) (q-out : Share) (b-out o-out : ℕ) (γ-out : GName) (out : List ℕ) (room-work : Room Record-row.the-row (length work)) (fits-count : count < 2 ^ 64) (fits-states : states < 2 ^ 16) (room-out : Room u8 (length out)) (writing : ToWrite (rowsBytes (rowsAt count (work))) count states (work) (out)) where
+module _ {M : Type 1} (𝓤 : URA M) (H : Heap 𝓤) (A : Atoms 𝓤) (W : Given 𝓤 H A) (mem : Memory → SProp 𝓤) (run : Routine → Fun 𝓤) (κ-work : Lft) (q-work : Share) (b-work o-work : ℕ) (γ-work : GName) (work : List Record) (count : ℕ) (states : ℕ) (κ-out : Lft) (q-out : Share) (b-out o-out : ℕ) (γ-out : GName) (out : List ℕ) (room-work : Room Record-row.the-row (length work)) (fits-count : count < 2 ^ 64) (fits-states : states < 2 ^ 16) (room-out : Room u8 (length out)) (writing : ToWrite (rowsBytes (keptRowsAt count (work))) count states (work) (out)) where
   abbrev s-work : Val
   s-work = sliceVal (b-work, o-work) (length work)
 
@@ -72,7 +72,7 @@ module _ {M : Type 1} (𝓤 : URA M) (H : Heap 𝓤) (A : Atoms 𝓤) (W : Given
   Ends = walkOf 𝓤 H A this.ended stayed (this.clauses 𝓤 H A mem run) .post (((κ-work, (κ-out, tt)), (q-work, (q-out, tt)), tt, args, machine), tt)
 
   -- what is had at an exit
-  exits : (r : ℕ) (out′ : List ℕ) (fits-res : r < 2 ^ 32) (long-out : length out′ ≡ length out) (said : Wrote (rowsBytes (rowsAt count (work))) r (out) (out′)) → ent 𝓤 (⋆ 𝓤 H A (‵ (ShrSlice (named 0) κ-work Record-row.the-row .own (lentAt b-work o-work γ-work work) (s-work ∷ [])) ∷ ‵ (flft κ-work q-work) ∷ ‵ (MutSlice (named 1) κ-out u8 .own (lentAt b-out o-out γ-out out′) (s-out ∷ [])) ∷ ‵ (flft κ-out q-out) ∷ [])) (Ends (vint w32 r))
+  exits : (r : ℕ) (out′ : List ℕ) (fits-res : r < 2 ^ 32) (long-out : length out′ ≡ length out) (said : Wrote (rowsBytes (keptRowsAt count (work))) r (out) (out′)) → ent 𝓤 (⋆ 𝓤 H A (‵ (ShrSlice (named 0) κ-work Record-row.the-row .own (lentAt b-work o-work γ-work work) (s-work ∷ [])) ∷ ‵ (flft κ-work q-work) ∷ ‵ (MutSlice (named 1) κ-out u8 .own (lentAt b-out o-out γ-out out′) (s-out ∷ [])) ∷ ‵ (flft κ-out q-out) ∷ [])) (Ends (vint w32 r))
   exits r out′ fits-res long-out said =
       qed W (‵ (ShrSlice (named 0) κ-work Record-row.the-row .own (lentAt b-work o-work γ-work work) (s-work ∷ [])) ∷ ‵ (flft κ-work q-work) ∷ ‵ (MutSlice (named 1) κ-out u8 .own (lentAt b-out o-out γ-out out′) (s-out ∷ [])) ∷ ‵ (flft κ-out q-out) ∷ []) ∵
       suffices ! _ (ends-at 𝓤 H A this.ended stayed (this.clauses 𝓤 H A mem run) W (((κ-work, (κ-out, tt)), (q-work, (q-out, tt)), tt, args, machine), tt) (vint w32 r) r (tt, (tt, (tt, (out′, tt)))) (tt, (tt, (tt, (long-out, tt))))) $ says ! said $
@@ -80,7 +80,7 @@ module _ {M : Type 1} (𝓤 : URA M) (H : Heap 𝓤) (A : Atoms 𝓤) (W : Given
 
   -- what the loop's head knows
   abbrev State : Type 0
-  State = (at : ℕ) × ((p : ℕ) × ((outs : List ℕ) × ((at < 2 ^ 64) × ((p < 2 ^ 64) × ((length outs ≡ length out) × ((WritingRows (rowsAt count work) p at out outs)))))))
+  State = (at : ℕ) × ((p : ℕ) × ((outs : List ℕ) × ((at < 2 ^ 64) × ((p < 2 ^ 64) × ((length outs ≡ length out) × ((WritingRows (keptRowsAt count work) p at out outs)))))))
 
   abbrev measure : ℕ → ℕ → (List ℕ) → ℕ
   measure at p outs = states - p
@@ -96,7 +96,7 @@ module _ {M : Type 1} (𝓤 : URA M) (H : Heap 𝓤) (A : Atoms 𝓤) (W : Given
       abbrev En : Env 𝓤 H
       En = ((tyInt w32), l0) ∷ (τ0, l1) ∷ ((tyInt w64), l2) ∷ ((tyInt w16), l3) ∷ (τ1, l4) ∷ ((tyInt w64), l5) ∷ ((tyInt w64), l6) ∷ ((tyInt w64), l7) ∷ ((tyInt w64), l8) ∷ (tyBool, l9) ∷ ((tyInt w64), l10) ∷ (tyPtr, l11) ∷ ((tyInt w64), l12) ∷ (τ2, l13) ∷ (τ3, l14) ∷ []
 
-      part-6 : (last : ℕ) (fits-last : last < 2 ^ 64) (last-is : last ≡ states) (at : ℕ) (p : ℕ) (outs : List ℕ) (fits-at : at < 2 ^ 64) (fits-p : p < 2 ^ 64) (long-outs : length outs ≡ length out) (known : WritingRows (rowsAt count work) p at out outs) (over : last ≤ p) → Sq W (‵ (ShrSlice (named 0) κ-work Record-row.the-row .own (lentAt b-work o-work γ-work work) (s-work ∷ [])) ∷ ‵ (flft κ-work q-work) ∷ ‵ (MutSlice (named 1) κ-out u8 .own (lentAt b-out o-out γ-out outs) (s-out ∷ [])) ∷ ‵ (flft κ-out q-out) ∷ empty τ3 l14 (empty τ2 l13 (empty (tyInt w64) l12 (empty tyPtr l11 (empty (tyInt w64) l10 (empty tyBool l9 (empty (tyInt w64) l8 (empty (tyInt w64) l7 (full (tyInt w64) l6 (vint w64 at) (empty (tyInt w64) l5 (empty τ1 l4 (empty (tyInt w16) l3 (empty (tyInt w64) l2 (empty τ0 l1 (empty (tyInt w32) l0 ([])))))))))))))))) (runs (𝓣 .C) (𝓣 .Λ) En this-mir.t-5 (atRet En Ends))
+      part-6 : (last : ℕ) (fits-last : last < 2 ^ 64) (last-is : last ≡ states) (at : ℕ) (p : ℕ) (outs : List ℕ) (fits-at : at < 2 ^ 64) (fits-p : p < 2 ^ 64) (long-outs : length outs ≡ length out) (known : WritingRows (keptRowsAt count work) p at out outs) (over : last ≤ p) → Sq W (‵ (ShrSlice (named 0) κ-work Record-row.the-row .own (lentAt b-work o-work γ-work work) (s-work ∷ [])) ∷ ‵ (flft κ-work q-work) ∷ ‵ (MutSlice (named 1) κ-out u8 .own (lentAt b-out o-out γ-out outs) (s-out ∷ [])) ∷ ‵ (flft κ-out q-out) ∷ empty τ3 l14 (empty τ2 l13 (empty (tyInt w64) l12 (empty tyPtr l11 (empty (tyInt w64) l10 (empty tyBool l9 (empty (tyInt w64) l8 (empty (tyInt w64) l7 (full (tyInt w64) l6 (vint w64 at) (empty (tyInt w64) l5 (empty τ1 l4 (empty (tyInt w16) l3 (empty (tyInt w64) l2 (empty τ0 l1 (empty (tyInt w32) l0 ([])))))))))))))))) (runs (𝓣 .C) (𝓣 .Λ) En this-mir.t-5 (atRet En Ends))
       part-6 last fits-last last-is at p outs fits-at fits-p long-outs known over =
           calls-offset-of 𝓤 H A W mem run at (fmOf 𝓤 H (W .laws) 𝓣) known-offset-of fits-at (bytes-few work (writing .table) (known .measured))
           (and-then ! (load ! (from ! (stop !)) (look ! 21 refl)) (no-more !)) (λ answer fits-answer answer-is.
@@ -113,7 +113,7 @@ module _ {M : Type 1} (𝓤 : URA M) (H : Heap 𝓤) (A : Atoms 𝓤) (W : Given
         abbrev Turned : State → Out → SProp 𝓤
         Turned t = afterTurn 𝓤 H (Below 𝓤 H A Nearer At t) (afterBlock 𝓤 H (afterSeq 𝓤 H (Wp 𝓤 H (𝓣 .C) (𝓣 .Λ) En this-mir.t-5 (atReturn 𝓤 H En Ends)) (atReturn 𝓤 H En Ends)))
 
-        turn : (at : ℕ) (p : ℕ) (outs : List ℕ) (fits-at : at < 2 ^ 64) (fits-p : p < 2 ^ 64) (long-outs : length outs ≡ length out) (known : WritingRows (rowsAt count work) p at out outs) → Sq W (head at p outs) (runs (𝓣 .C) (𝓣 .Λ) En this-mir.turn-1 (anyQ (Turned (at, (p, (outs, (fits-at, (fits-p, (long-outs, (known))))))))))
+        turn : (at : ℕ) (p : ℕ) (outs : List ℕ) (fits-at : at < 2 ^ 64) (fits-p : p < 2 ^ 64) (long-outs : length outs ≡ length out) (known : WritingRows (keptRowsAt count work) p at out outs) → Sq W (head at p outs) (runs (𝓣 .C) (𝓣 .Λ) En this-mir.turn-1 (anyQ (Turned (at, (p, (outs, (fits-at, (fits-p, (long-outs, (known))))))))))
         unfolding afterTurn
         turn at p outs fits-at fits-p long-outs known =
             assigns ! (bin ! (load ! (from ! (stop !)) (look ! 18 refl)) (load ! (from ! (stop !)) (look ! 22 refl)) tt) (from ! (stop !)) (init ! 14 refl (tt, tt)) $
@@ -146,7 +146,7 @@ module _ {M : Type 1} (𝓤 : URA M) (H : Heap 𝓤) (A : Atoms 𝓤) (W : Given
           land ! (from ! (stop !)) (init ! 22 refl (tt, record { fits = fits-last })) $
           assigns ! (of-opd ! (lit ! tt)) (from ! (stop !)) (init ! 20 refl (tt, record { fits = lit< tt })) $
           assigns ! (of-opd ! (lit ! tt)) (from ! (stop !)) (init ! 18 refl (tt, record { fits = lit< tt })) $
-          first ! $ blocks ! $ loops ! 𝓣 Nearer Nearer-wf (At last fits-last last-is) (turns last fits-last last-is) (0, (0, (out, (lit< tt, (lit< tt, (refl, (rows-begun (rowsAt count work) out))))))))
+          first ! $ blocks ! $ loops ! 𝓣 Nearer Nearer-wf (At last fits-last last-is) (turns last fits-last last-is) (0, (0, (out, (lit< tt, (lit< tt, (refl, (rows-begun (keptRowsAt count work) out))))))))
 
     walk : ent 𝓤 (onEntry 𝓤 H A this.signature (κ-work, (κ-out, tt)) (q-work, (q-out, tt)) args machine) (WpFn 𝓤 H (𝓣 .C) (𝓣 .Λ) this-code.function (s-work ∷ vint w64 count ∷ vint w16 states ∷ s-out ∷ []) Ends)
     walk =
@@ -158,7 +158,7 @@ module _ {M : Type 1} (𝓤 : URA M) (H : Heap 𝓤) (A : Atoms 𝓤) (W : Given
 module _ {M : Type 1} (𝓤 : URA M) (H : Heap 𝓤) (A : Atoms 𝓤) (W : Given 𝓤 H A) (mem : Memory → SProp 𝓤) (run : Routine → Fun 𝓤) where
   write-rows-walks : (𝓣 : Tables 𝓤 H) → Triple 𝓤 (𝓣 .C #numbering·write·wide) (wide-contract 𝓤 H A mem run) → Triple 𝓤 (𝓣 .C #numbering·write·state-at) (state-at-contract 𝓤 H A mem run) → Triple 𝓤 (𝓣 .C #numbering·write·write-row) (write-row-contract 𝓤 H A mem run) → Triple 𝓤 (𝓣 .C #numbering·write·offset-of) (offset-of-contract 𝓤 H A mem run) → Walks 𝓤 H A this.ended stayed (WpFn 𝓤 H (𝓣 .C) (𝓣 .Λ) this-code.function) (this.clauses 𝓤 H A mem run)
   write-rows-walks 𝓣 known-wide known-state-at known-write-row known-offset-of = walked 𝓤 H A this.ended stayed (this.clauses 𝓤 H A mem run) (WpFn 𝓤 H (𝓣 .C) (𝓣 .Λ) this-code.function)
-      (λ κs. (slice-vals, (uint-vals w64, (uint-vals w16, (slice-vals, tt))))) (λ κs. (shr-slice-tells (named 0) (κs .0) Record-row.the-row, (uint-tells w64, (uint-tells w16, (mut-slice-tells (named 1) (κs .1 .0) u8, tt))))) (λ κs qs bounds a g are. needs 𝓤 (ToWrite (rowsBytes (rowsAt (a .1 .0) ((a .0 .now)))) (a .1 .0) (a .1 .1 .0) ((a .0 .now)) ((a .1 .1 .1 .0 .now))) _ (λ needed. walk 𝓤 H A W mem run (κs .0) (qs .0) (a .0 .ptr .0) (a .0 .ptr .1) (a .0 .name) (a .0 .now) (a .1 .0) (a .1 .1 .0) (κs .1 .0) (qs .1 .0) (a .1 .1 .1 .0 .ptr .0) (a .1 .1 .1 .0 .ptr .1) (a .1 .1 .1 .0 .name) (a .1 .1 .1 .0 .now) (are .0 .0 .1) (are .1 .0 .1) (are .1 .1 .0 .1) (are .1 .1 .1 .0 .0 .1) needed 𝓣 known-wide known-state-at known-write-row known-offset-of))
+      (λ κs. (slice-vals, (uint-vals w64, (uint-vals w16, (slice-vals, tt))))) (λ κs. (shr-slice-tells (named 0) (κs .0) Record-row.the-row, (uint-tells w64, (uint-tells w16, (mut-slice-tells (named 1) (κs .1 .0) u8, tt))))) (λ κs qs bounds a g are. needs 𝓤 (ToWrite (rowsBytes (keptRowsAt (a .1 .0) ((a .0 .now)))) (a .1 .0) (a .1 .1 .0) ((a .0 .now)) ((a .1 .1 .1 .0 .now))) _ (λ needed. walk 𝓤 H A W mem run (κs .0) (qs .0) (a .0 .ptr .0) (a .0 .ptr .1) (a .0 .name) (a .0 .now) (a .1 .0) (a .1 .1 .0) (κs .1 .0) (qs .1 .0) (a .1 .1 .1 .0 .ptr .0) (a .1 .1 .1 .0 .ptr .1) (a .1 .1 .1 .0 .name) (a .1 .1 .1 .0 .now) (are .0 .0 .1) (are .1 .0 .1) (are .1 .1 .0 .1) (are .1 .1 .1 .0 .0 .1) needed 𝓣 known-wide known-state-at known-write-row known-offset-of))
 
   write-rows-meets : (𝓣 : Tables 𝓤 H) → Triple 𝓤 (𝓣 .C #numbering·write·wide) (wide-contract 𝓤 H A mem run) → Triple 𝓤 (𝓣 .C #numbering·write·state-at) (state-at-contract 𝓤 H A mem run) → Triple 𝓤 (𝓣 .C #numbering·write·write-row) (write-row-contract 𝓤 H A mem run) → Triple 𝓤 (𝓣 .C #numbering·write·offset-of) (offset-of-contract 𝓤 H A mem run) → Meets 𝓤 H A this.signature (WpFn 𝓤 H (𝓣 .C) (𝓣 .Λ) this-code.function) (this.spec 𝓤 H A mem run)
   write-rows-meets 𝓣 known-wide known-state-at known-write-row known-offset-of = walk-meets 𝓤 H A this.ended stayed W (goes-none-slice 𝓤 H A W 2 (0 ∷ []) tt (plain (λ _. Record-row.the-row)) yes, (goes-none 𝓤 H A W 2 (λ _. usize) yes (λ κs x f. refl), (goes-none 𝓤 H A W 2 (λ _. u16) yes (λ κs x f. refl), (goes-slice 𝓤 H A W 2 1 tt (plain (λ _. u8)), tt)))) (this.clauses 𝓤 H A mem run)
