@@ -14,7 +14,7 @@ from typing import NamedTuple
 from tests.reference.chance import Chance
 from tests.reference.pair_cases import small_sheets
 from tests.reference.random_contracts import Shape, random_contract, resembling
-from tests.reference.records import measured, number_bytes
+from tests.reference.framing import measured, number_bytes
 from tests.reference.sheet_random import careless_sheet, changed
 from tests.reference.sheets import SERVICE, Contract, state, write_sheet
 
