@@ -190,6 +190,8 @@ def clauses():
     made = source()
     case('a function has the words of its own file', 'Fine' in made.functions['ready'].uses and not made.functions['apart::ready'].uses)
     case('a function of a module is known by both names', made.functions['apart::ready'].file == 'apart.rt')
+    made.read('wide.rt', 'pub struct Wide {\n    pub next: [u16; keys::SLOTS],\n}\n')
+    case('a number that a crate names is read as the number', made.structs['Wide'] == [('next', '[u16; 42]')])
     g = contracts.Signature('made', 'choose')
     case('a clause is called with a dash', [c.name for c in g.needs] == ['few', 'at-least'])
     case('a clause speaks of the result that is given', g.said(g.gives[1], {}, {}, {'n': 'n'}, 'q') == 'Fine q')

@@ -79,7 +79,7 @@ module _ (k : ℕ) (σ τ : Contract) (keys links : List ℕ) (count room rounds
 module _ (k : ℕ) (old new : List ℕ) (count rounds : ℕ) (ys : List Record) {ys′ : List Record} (searched : SearchedTable old new count ys) (some : 0 < count)
     (settled : SettledWork (contractIn old) (contractIn new) count rounds ys ys′) where
   pub start-there : 0 < length ys′
-  start-there = omega (arith, searched .room, settled .size)
+  start-there = omega (arith, searched .situated .room, settled .size)
 
   module _ {y : Record} (y-is : y ≡ getD ys′ 0 blank) where
     start-mark : getD (marksOf ys′) 0 0 ≡ y .mark
@@ -101,15 +101,15 @@ module _ (k : ℕ) (old new : List ℕ) (count rounds : ℕ) (ys : List Record) 
           record {
             settled = record {
               some-situation = some;
-              few = searched .few;
-              room = omega (arith, searched .room, settled .size);
-              links-within = subst⁻¹ (LinksWithin count) (settled .links) (searched .links-within);
+              few = searched .situated .few;
+              room = omega (arith, searched .situated .room, settled .size);
+              links-within = subst⁻¹ (LinksWithin count) (settled .links) (searched .situated .links-within);
               start-kept = start-mark ∙ kept;
               masks = subst⁻¹ (λ (links : List ℕ). MasksLeft count links (marksOf ys′) (presentOf ys′)) (settled .links) (settled .masks);
             };
             none = λ i h.
                 ap (λ (numbers : List ℕ). getD numbers i 0) (settled .numbers)
-                ∙ numbers-at ys i (omega (arith, searched .room)) ∙ searched .unnumbered i h;
+                ∙ numbers-at ys i (omega (arith, searched .situated .room)) ∙ searched .unnumbered i h;
           }
 
       -- 13 or acceptance

@@ -126,7 +126,7 @@ module _ {M : Type 1} (𝓤 : URA M) (H : Heap 𝓤) (A : Atoms 𝓤) (W : Given
           regain-shared ! tt Record-row.the-row (named 2) κ-work q-work γ-work b-work o-work (length work) settled (same-settled ∙ refl) ν-3-work room-work (move ! (2 ∷ 3 ∷ 4 ∷ 5 ∷ 0 ∷ 1 ∷ 6 ∷ 7 ∷ []) $ land ! (from ! (stop !)) (init ! 26 refl (LL.lawful Record-row.the-type Record-laws.the-laws 𝓤 H A W .typed begin _ is-begin .0)) $
           assigns ! (bin ! (load ! (from ! (fld ! refl (stop !))) (look-in ! 26 (sub ! 4 refl (whole !)))) (lit ! tt) tt) (from ! (stop !)) (init ! 16 refl (tt, tt)) $
           guards ! (load ! (from ! (stop !)) (look ! 16 refl)) (unequal (begin .mark) 0) (not-unequal (begin .mark) 0)
-          (λ gone. calls-with-counts 𝓤 H A W mem run 12 count 0 rounds 0 (fmOf 𝓤 H (W .laws) 𝓣) known-with-counts (lit< tt) fits-count (lit< tt) fits-rounds (lit< tt) (searched .few)
+          (λ gone. calls-with-counts 𝓤 H A W mem run 12 count 0 rounds 0 (fmOf 𝓤 H (W .laws) 𝓣) known-with-counts (lit< tt) fits-count (lit< tt) fits-rounds (lit< tt) (searched .situated .few)
           (and-then ! (lit ! tt) (and-then ! (load ! (from ! (stop !)) (look ! 31 refl)) (and-then ! (lit ! tt) (and-then ! (load ! (from ! (stop !)) (look ! 29 refl)) (and-then ! (lit ! tt) (no-more !)))))) (λ answer is-answer answer-is.
           land ! (from ! (stop !)) (init ! 42 refl (LL.lawful Answer-row.the-type Answer-laws.the-laws 𝓤 H A W .typed answer _ is-answer .0)) $
           returns-within ! Ends refl (look ! 42 refl) $ released ! (‵ (ShrSlice (named 0) κ-old u8 .own (lentAt b-old o-old γ-old old) (s-old ∷ [])) ∷ ‵ (flft κ-old q-old) ∷ ‵ (ShrSlice (named 1) κ-new u8 .own (lentAt b-new o-new γ-new new) (s-new ∷ [])) ∷ ‵ (flft κ-new q-new) ∷ ‵ (MutSlice (named 2) κ-work Record-row.the-row .own (lentAt b-work o-work γ-work settled) (s-work ∷ [])) ∷ ‵ (flft κ-work q-work) ∷ ‵ (MutSlice (named 3) κ-plan u8 .own (lentAt b-plan o-plan γ-plan plan) (s-plan ∷ [])) ∷ ‵ (flft κ-plan q-plan) ∷ []) (held Answer-laws.mir l0 (Answer-laws.lowered answer) ∷ held (tyInt w8) l1 (vint w8 k) ∷ held τ0 l2 (s-old) ∷ held τ1 l3 (s-new) ∷ held τ2 l4 (s-work) ∷ held τ3 l5 (s-plan) ∷ held (tyInt w64) l6 (vint w64 count) ∷ held (tyInt w16) l7 (vint w16 rounds) ∷ held Record-laws.mir l8 (Record-laws.lowered begin) ∷ held τ4 l9 (vptr b-work o-work) ∷ held τ5 l10 (s-work) ∷ held τ6 l11 (vptr b-work o-work) ∷ held τ7 l12 (s-work) ∷ held tyBool l13 (vbool (not (eqb (begin .mark) 0))) ∷ bare τ4 l14 ∷ bare τ5 l15 ∷ bare τ8 l16 ∷ bare τ9 l17 ∷ []) $ by ! (exits answer settled plan is-answer (same-settled ∙ refl) refl (relate-removed k old new count rounds work searched some-situation settled-is begin-is gone answer plan answer-is))))
@@ -135,7 +135,7 @@ module _ {M : Type 1} (𝓤 : URA M) (H : Heap 𝓤) (A : Atoms 𝓤) (W : Given
           assigns ! (addr ! (from ! (fld ! refl (hop ! (look-in ! 32 (sub ! 0 refl (whole !))) (stop !))))) (from ! (stop !)) (init ! 10 refl (tt, tt)) $
           assigns ! (agg ! (and-then ! (load ! (from ! (stop !)) (look ! 10 refl)) (and-then ! (load ! (from ! (fld ! refl (stop !))) (look-in ! 32 (sub ! 1 refl (whole !)))) (no-more !)))) (from ! (stop !)) (init ! 8 refl (tt, (tt, (record { fits = room-plan .0 }, tt)))) $
           share ! u8 (named 0) κ-old (lentAt b-old o-old γ-old old) (s-old ∷ []) (move ! (5 ∷ 6 ∷ []) $ lend ! tt Record-row.the-row (named 2) κ-work q-work γ-work b-work o-work (length work) settled (same-settled ∙ refl) (λ ν-6-work δ-6-work. move ! (8 ∷ 9 ∷ []) $ lend ! tt u8 (named 3) κ-plan q-plan γ-plan b-plan o-plan (length plan) plan refl (λ ν-6-plan δ-6-plan. move ! (8 ∷ 6 ∷ 3 ∷ 4 ∷ 0 ∷ 1 ∷ []) $
-          calls-emit 𝓤 H A W mem run k κ-old q-old (lentAt b-old o-old γ-old old) s-old (ν-6-work ∷ []) fullShare (lentAt b-work o-work δ-6-work settled) s-work (ν-6-plan ∷ []) fullShare (lentAt b-plan o-plan δ-6-plan plan) s-plan count rounds (fmOf 𝓤 H (W .laws) 𝓣) known-emit fits-k fits-count fits-rounds (searched .old-sheet) (emit-needs k old new count rounds work searched some-situation settled-is begin-is stays)
+          calls-emit 𝓤 H A W mem run k κ-old q-old (lentAt b-old o-old γ-old old) s-old (ν-6-work ∷ []) fullShare (lentAt b-work o-work δ-6-work settled) s-work (ν-6-plan ∷ []) fullShare (lentAt b-plan o-plan δ-6-plan plan) s-plan count rounds (fmOf 𝓤 H (W .laws) 𝓣) known-emit fits-k fits-count fits-rounds (searched .situated .old-sheet) (emit-needs k old new count rounds work searched some-situation settled-is begin-is stays)
           (and-then ! (load ! (from ! (stop !)) (look ! 38 refl)) (and-then ! (load ! (from ! (stop !)) (look ! 36 refl)) (and-then ! (load ! (from ! (stop !)) (look ! 10 refl)) (and-then ! (load ! (from ! (stop !)) (look ! 6 refl)) (and-then ! (load ! (from ! (stop !)) (look ! 28 refl)) (and-then ! (load ! (from ! (stop !)) (look ! 26 refl)) (no-more !))))))) (λ answer emitted written is-answer same-emitted same-written is-written.
           move ! (1 ∷ 6 ∷ 2 ∷ []) $ regain ! tt Record-row.the-row (named 2) κ-work q-work γ-work b-work o-work (length work) settled (same-settled ∙ refl) ν-6-work δ-6-work emitted room-work same-emitted (move ! (3 ∷ 5 ∷ 4 ∷ []) $ regain ! tt u8 (named 3) κ-plan q-plan γ-plan b-plan o-plan (length plan) plan refl ν-6-plan δ-6-plan written room-plan same-written (move ! (5 ∷ 4 ∷ 6 ∷ 7 ∷ 2 ∷ 3 ∷ 0 ∷ 1 ∷ []) $ land ! (from ! (stop !)) (init ! 42 refl (LL.lawful Answer-row.the-type Answer-laws.the-laws 𝓤 H A W .typed answer _ is-answer .0)) $
           returns-within ! Ends refl (look ! 42 refl) $ released ! (‵ (ShrSlice (named 0) κ-old u8 .own (lentAt b-old o-old γ-old old) (s-old ∷ [])) ∷ ‵ (flft κ-old q-old) ∷ ‵ (ShrSlice (named 1) κ-new u8 .own (lentAt b-new o-new γ-new new) (s-new ∷ [])) ∷ ‵ (flft κ-new q-new) ∷ ‵ (MutSlice (named 2) κ-work Record-row.the-row .own (lentAt b-work o-work γ-work emitted) (s-work ∷ [])) ∷ ‵ (flft κ-work q-work) ∷ ‵ (MutSlice (named 3) κ-plan u8 .own (lentAt b-plan o-plan γ-plan written) (s-plan ∷ [])) ∷ ‵ (flft κ-plan q-plan) ∷ []) (held Answer-laws.mir l0 (Answer-laws.lowered answer) ∷ held (tyInt w8) l1 (vint w8 k) ∷ held τ0 l2 (s-old) ∷ held τ1 l3 (s-new) ∷ held τ2 l4 (s-work) ∷ held τ3 l5 (s-plan) ∷ held (tyInt w64) l6 (vint w64 count) ∷ held (tyInt w16) l7 (vint w16 rounds) ∷ held Record-laws.mir l8 (Record-laws.lowered begin) ∷ held τ4 l9 (vptr b-work o-work) ∷ held τ5 l10 (s-work) ∷ held τ6 l11 (vptr b-work o-work) ∷ held τ7 l12 (s-work) ∷ held tyBool l13 (vbool (not (eqb (begin .mark) 0))) ∷ held τ4 l14 (vptr b-work o-work) ∷ held τ5 l15 (s-work) ∷ held τ8 l16 (vptr b-plan o-plan) ∷ held τ9 l17 (s-plan) ∷ []) $ by ! (exits answer emitted written is-answer (same-emitted ∙ (same-settled ∙ refl)) (same-written ∙ refl) (relate-kept k old new count rounds work searched some-situation settled-is begin-is stays answer plan written is-written)))))))))))))))))
