@@ -78,9 +78,9 @@ pub fn record_before() -> table::Record
         mark: 1,
         number: 1,
         present: present,
-        last: [1u16; 3],
-        next: [1u16; 42],
-        before: [1u16; 42],
+        last: [1u16; keys::KINDS],
+        next: [1u16; keys::SLOTS],
+        before: [1u16; keys::SLOTS],
     }
 }
 

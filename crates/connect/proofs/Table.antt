@@ -79,11 +79,11 @@ module _ (k : ℕ) (σ τ : Contract) (limit : ℕ) where
   abbrev nx : Situation → ℕ → Option Situation
   nx = next (alike k) σ τ
 
-  abbrev found : Search Situation
-  found = searchFrom same codes nx limit start
+  abbrev searched : Search Situation
+  searched = searchFrom same codes nx limit start
 
   abbrev done : List Situation
-  done = found .done
+  done = searched .done
 
   abbrev count : ℕ
   count = length done
@@ -96,13 +96,13 @@ module _ (k : ℕ) (σ τ : Contract) (limit : ℕ) where
 
   -- the lists hold the search
   pub record HoldsSearch (keys links : List ℕ) : Type 0 where
-    pub whole : found .todo ≡ []
+    pub whole : searched .todo ≡ []
     pub fits : (s : Situation) → List·Memᴰ s done → Fits s
     pub keys-hold : take count keys ≡ map keyOf done
     pub links-hold : (i code : ℕ) → i < count → List·Memᴰ code codes → nextIn links i code ≡ Option·map (λ t. place (same t) done) (nx (name i) code)
 
   module _ (keys links : List ℕ) (h : HoldsSearch keys links) where
-    inv : Inv codes nx start done (found .todo)
+    inv : Inv codes nx start done (searched .todo)
     inv = search-inv same is-same codes nx start limit
 
     distinct : Distinct done

@@ -81,11 +81,11 @@ module _ (k limit : ℕ) (limit-ok : limit ≤ 4096) (room : ℕ) (old new : Lis
   abbrev τ : Contract
   τ = c .sheets .two
 
-  abbrev found : List Situation
-  found = searchFrom same codes (next (alike k) σ τ) limit start .done
+  abbrev reachedAll : List Situation
+  reachedAll = searchFrom same codes (next (alike k) σ τ) limit start .done
 
   abbrev kept : List Situation
-  kept = settledOf k σ τ found .kept
+  kept = settledOf k σ τ reachedAll .kept
 
   abbrev rows : List (List Move)
   rows = rowsFor k σ τ kept
@@ -104,11 +104,11 @@ module _ (k limit : ℕ) (limit-ok : limit ≤ 4096) (room : ℕ) (old new : Lis
 
   kept-reached : (s : Situation) → List·Memᴰ s kept → IsReached k σ τ s
   unfolding settledOf
-  kept-reached s m = is-reached (alike k) σ τ limit (c .whole) s (settled-from same is-same codes (next (alike k) σ τ) (test σ τ) found s m)
+  kept-reached s m = is-reached (alike k) σ τ limit (c .whole) s (settled-from same is-same codes (next (alike k) σ τ) (test σ τ) reachedAll s m)
 
   kept-closed : Closed codes (next (alike k) σ τ) (PassesAt σ τ) (λ (s : Situation). List·Memᴰ s kept)
   unfolding settledOf
-  kept-closed = settled-closed same is-same codes (next (alike k) σ τ) (test σ τ) (PassesAt σ τ) (is-test σ τ) found
+  kept-closed = settled-closed same is-same codes (next (alike k) σ τ) (test σ τ) (PassesAt σ τ) (is-test σ τ) reachedAll
 
   abbrev runOver : List (List Move) → List Attempt → Run
   runOver rs l = runFrom user τ rs begin l

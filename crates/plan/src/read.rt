@@ -10,6 +10,11 @@ ghost use Rattle.plan.specs.Layout.{isSome, moveAt, goodMove, goodPlace,
 use little_endian::dword_at;
 use little_endian::word_at;
 
+// Moves of a row and states of a plan at most.
+const MOVES: usize = 42;
+
+const STATES: u16 = 4096;
+
 // Whether the name of an action is below n.
 pub fn named(j: u8, n: u8) -> bool
     ensures { λ r. ⌜ r ≡ ltb (name j) n ⌝ }
@@ -45,7 +50,7 @@ pub fn good_row(plan: &[u8], first: usize, size: usize, n: u8, count: u16) -> bo
     requires { ⌜ first + 3 * size ≤ length (now plan) ⌝ }
     ensures { λ r. ⌜ r ≡ goodRow n count (readMoves (now (plan .entry)) first size) ⌝ }
 {
-    if 42 < size {
+    if MOVES < size {
         return false;
     }
     let mut left = size;
@@ -110,7 +115,7 @@ pub fn figures_in_range(count: u16, n: u8, k: u8) -> bool
     if count < 1 {
         return false;
     }
-    if 4096 < count {
+    if STATES < count {
         return false;
     }
     if 7 < n {

@@ -17,6 +17,9 @@ use parts::check_states;
 use parts::good_trailer;
 use parts::read_trailer;
 
+// What stands above the fourteen bits of actions in a mask.
+pub const ACTION_BITS: u16 = 16384;
+
 // Whether bytes are a sheet: whole, or a fault with its number in document 01's table, the state and the offset of the
 // byte at fault.
 pub enum Finding {

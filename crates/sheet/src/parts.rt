@@ -7,6 +7,7 @@ ghost use Prim.Native.Nat.{_+_, _*_, _≤_};
 ghost use lib.ListN.{length};
 ghost use Rattle.model.specs.Sheet.{trailer, goodTrailer, strayBit, masksFrom, successorsFrom, rowWith, rowAt, statesFrom};
 ghost use Rattle.sheet.specs.Answers.{trailerOf, findingOf, unionIn, behindIn};
+use super::ACTION_BITS;
 use super::Finding;
 use super::ones_below;
 use little_endian::word_at;
@@ -79,7 +80,7 @@ pub fn stray_bit(n: u8, role: u8, mask: u16) -> bool
     if limit <= mask / 128 % 128 {
         return true;
     }
-    (role as u16) < mask / 16384
+    (role as u16) < mask / ACTION_BITS
 }
 
 // The `count` masks of state q from an offset on: strictly ascending, none with a stray bit.
