@@ -39,12 +39,14 @@ pub entry-demand-3 : EntryDemand-3
 unfolding complianceOf
 entry-demand-3 k old new answer work work′ plan plan′ client user attempts ensured z read =
     let r : Runs k (user .contract) (contractIn old) (contractIn new) (take (answer .length) plan′) attempts =
-    subst (λ (b : List ℕ). Runs k (user .contract) (contractIn old) (contractIn new) b attempts) (same-bytes k old new answer work work′ plan plan′ ensured)
+    subst (λ (b : List ℕ). Runs k (user .contract) (contractIn old) (contractIn new) b attempts)
+    (same-bytes k old new answer work work′ plan plan′ ensured)
     (demand-3 Record blank k old new work plan client user attempts (is-accepted k old new answer work work′ plan plan′ ensured z) read) in
     record {
       steps = λ before after a e s q. subst⁻¹ (Follows _ (a .code)) (same-step s _ q) (r .steps before after a e);
       no-standstill = λ c q number yes.
           r .no-standstill
-          (yes-complies client old user read (ap (λ (c : Compliance). c .number) (sym q) ∙ number, ap (λ (c : Compliance). c .yes) (sym q) ∙ yes));
+          (yes-complies client old user read
+          (ap (λ (c : Compliance). c .number) (sym q) ∙ number, ap (λ (c : Compliance). c .yes) (sym q) ∙ yes));
       few-alone = r .few-alone;
     }

@@ -27,7 +27,8 @@ pub record RunsByAnswers (k : ℕ) (client old : List ℕ) (user new : Contract)
   -- at each attempt, what stepping answers is 0 and the row's next state if the row holds the code, else 16 and 0
   pub steps : (before after : List Attempt) (a : Attempt) → attempts ≡ before ++ a ∷ after
       → (answer : Stepped) → answer ≡ steppedOf (stepOf bytes (runFrom user new (rowsIn bytes) begin before .plan) (a .code))
-      → Follows (rowAtRun user new (rowsIn bytes) (runFrom user new (rowsIn bytes) begin before)) (a .code) (record { number = answer .number; state = answer .state })
+      → Follows (rowAtRun user new (rowsIn bytes) (runFrom user new (rowsIn bytes) begin before)) (a .code)
+      (record { number = answer .number; state = answer .state })
   -- where the client check of client and old contract answers yes, a standstill has the success mark
   pub no-standstill : (answer : Compliance) → answer ≡ complianceOf (compliesOf client old) → answer .number ≡ 0 → answer .yes ≡ true
       → (R S : ℕ) → Standstill user new (rowsIn bytes) (runFrom user new (rowsIn bytes) begin attempts) R S → T (has R 14)
@@ -38,6 +39,8 @@ pub record RunsByAnswers (k : ℕ) (client old : List ℕ) (user new : Contract)
 -- hang.
 abbrev pub EntryDemand-3 : Type 0
 EntryDemand-3 =
-    (k : ℕ) (old new : List ℕ) (answer : Answer) (work work′ : List Record) (plan plan′ : List ℕ) (client : List ℕ) (user : Sheet) (attempts : List Attempt)
-    → record { answer = answerOf answer; plan = plan′; work = work′ } ≡ connectOf blank k old new work plan → answer .number ≡ 0 → readSheet client ≡ good user
+    (k : ℕ) (old new : List ℕ) (answer : Answer) (work work′ : List Record) (plan plan′ : List ℕ) (client : List ℕ) (user : Sheet)
+    (attempts : List Attempt)
+    → record { answer = answerOf answer; plan = plan′; work = work′ } ≡ connectOf blank k old new work plan → answer .number ≡ 0
+    → readSheet client ≡ good user
     → RunsByAnswers k client old (user .contract) (contractIn new) (take (answer .length) plan′) attempts

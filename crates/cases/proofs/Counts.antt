@@ -15,8 +15,10 @@ use Rattle.table.specs.Records.{blank}
 use Rattle.cases.specs.Counts.{singles, filledWith, countOf}
 
 -- a record's answers, two by two
-pub filled-from : (v : ℕ) (y : Record) {counts packed single last next before first second third rest r : Bool} → counts ≡ all (eqb v) (y .at .buffer .counts) → packed ≡ eqb v (y .packed) → first ≡ (counts && packed)
-    → single ≡ all (eqb v) (singles y) → last ≡ all (eqb v) (y .last) → second ≡ (single && last) → next ≡ all (eqb v) (y .next) → before ≡ all (eqb v) (y .before) → third ≡ (next && before)
+pub filled-from : (v : ℕ) (y : Record) {counts packed single last next before first second third rest r : Bool}
+    → counts ≡ all (eqb v) (y .at .buffer .counts) → packed ≡ eqb v (y .packed) → first ≡ (counts && packed)
+    → single ≡ all (eqb v) (singles y) → last ≡ all (eqb v) (y .last) → second ≡ (single && last) → next ≡ all (eqb v) (y .next)
+    → before ≡ all (eqb v) (y .before) → third ≡ (next && before)
     → rest ≡ (second && third) → r ≡ (first && rest) → r ≡ filledWith v y
 unfolding filledWith
 filled-from v y a b ab s l sl n p np q r = rw (r, q, ab, sl, np, a, b, s, l, n, p) refl
@@ -41,7 +43,8 @@ module _ (v : ℕ) (ys : List Record) where
   pub counting-starts : CountedTo v ys 0 0
   counting-starts = record { few = omega arith; within = omega arith; counted = omega arith }
 
-  pub counting-onward : {found more i : ℕ} {y : Record} → CountedTo v ys found i → i < length ys → y ≡ getD ys i blank → more ≡ found + cond (filledWith v y) 1 0 → CountedTo v ys more (i + 1)
+  pub counting-onward : {found more i : ℕ} {y : Record} → CountedTo v ys found i → i < length ys → y ≡ getD ys i blank
+      → more ≡ found + cond (filledWith v y) 1 0 → CountedTo v ys more (i + 1)
   unfolding countOf
   counting-onward {found} {more} {i} {y} k less is e =
       let cut : countOf v (drop i ys) ≡ cond (filledWith v y) 1 0 + countOf v (drop (i + 1) ys) =

@@ -19,12 +19,14 @@ take-replicate x (suc k) zero h = absurd (not-suc-le-zero h)
 take-replicate {X} x (suc k) (suc n) h = ap (λ (l : List X). x ∷ l) (take-replicate x k n (le-of-suc-le-suc h))
 
 -- the front of the table
-pub front-made : (k n : ℕ) (y : Record) (table : List Record) → k ≤ n → table ≡ replicate n y → y ≡ before → take k table ≡ replicate k before
+pub front-made : (k n : ℕ) (y : Record) (table : List Record) → k ≤ n → table ≡ replicate n y → y ≡ before
+    → take k table ≡ replicate k before
 front-made k n y table within made is =
     ap (λ (t : List Record). take k t) made ∙ take-replicate y k n within ∙ ap (λ (x : Record). replicate k x) is
 
 -- the outcome of a call, and what was counted behind it
-pub gives : (o : Connected Record) (answer : Answer) (plan : List ℕ) (left : List Record) (zeros sames : ℕ) (r : Outcome) → r ≡ record { answer = answer; zero = zeros; same = sames } → record { answer = answerOf answer; plan = plan; work = left } ≡ o
+pub gives : (o : Connected Record) (answer : Answer) (plan : List ℕ) (left : List Record) (zeros sames : ℕ) (r : Outcome)
+    → r ≡ record { answer = answer; zero = zeros; same = sames } → record { answer = answerOf answer; plan = plan; work = left } ≡ o
     → zeros ≡ countOf 0 left → sames ≡ countOf 1 left → Gives o r plan
 gives o answer plan left zeros sames r is e zeros-are sames-are =
     let work : left ≡ o .work = ap (λ (c : Connected Record). c .work) e in

@@ -10,7 +10,8 @@ use Rattle.model.proofs.Ranges.{kind-straight, kind-client, kind-service, kind-
 
 module _ (R S code : ℕ) where
   -- s and r are the bits that the masks have
-  pub straight-needs : (p : ℕ) (s r : Bool) → code ≤ 13 → p ≡ partner code → s ≡ has S code → r ≡ has R p → (s && r) ≡ need R S (kindOf code)
+  pub straight-needs : (p : ℕ) (s r : Bool) → code ≤ 13 → p ≡ partner code → s ≡ has S code → r ≡ has R p
+      → (s && r) ≡ need R S (kindOf code)
   unfolding need
   straight-needs p s r h e f g = rw (kind-straight code h, f, g, e) refl
 

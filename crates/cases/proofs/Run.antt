@@ -15,7 +15,8 @@ use Rattle.pair.proofs.Pairs.{good-both, both-sheets}
 at-start : (b : List ℕ) → IsSheet b → IsState b 0
 at-start b whole = record { sheet = whole; state = omega (arith, states-some b whole) }
 
-pub both-at-start : (client service : List ℕ) (r : Pair) → r ≡ pairOf (readBoth 1 0 client service) → r ≡ P.Good → IsState client 0 × IsState service 0
+pub both-at-start : (client service : List ℕ) (r : Pair) → r ≡ pairOf (readBoth 1 0 client service) → r ≡ P.Good
+    → IsState client 0 × IsState service 0
 both-at-start client service r e good =
     let sheets = both-sheets 1 0 client service _ (good-both 1 0 client service r e good) in
     (at-start client (sheets .0), at-start service (sheets .1))

@@ -10,7 +10,8 @@ use Rattle.table.specs.declared.Record.{Record}
 -- the numbers of a record that stand alone
 unfoldable pub singles : Record → List ℕ
 singles y =
-    y .at .old ∷ y .at .new ∷ y .slot ∷ y .order ∷ y .mark ∷ y .number ∷ y .present .straight ∷ y .present .client ∷ y .present .service ∷ []
+    y .at .old ∷ y .at .new ∷ y .slot ∷ y .order ∷ y .mark ∷ y .number ∷ y .present .straight ∷ y .present .client ∷ y .present .service ∷
+    []
 
 -- all numbers of a record have a value
 unfoldable pub filledWith : ℕ → Record → Bool

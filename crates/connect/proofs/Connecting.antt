@@ -36,7 +36,8 @@ module _ (k : ℕ) (σ τ : Contract) (σ-formed : WellFormed σ) (τ-formed : W
   reached-within : {s : Situation} → Reached codes (next (alike k) σ τ) start s → InStates σ τ s
   unfolding start
   reached-within {s} (at-start e) = subst⁻¹ (InStates σ τ) e (σ-formed .some-state, τ-formed .some-state)
-  reached-within (by-move {s = s} {t = t} code m e r) = next-within σ τ (σ-formed .closed) (τ-formed .closed) s (reached-within r) (alike k) t code e
+  reached-within (by-move {s = s} {t = t} code m e r) = next-within σ τ (σ-formed .closed) (τ-formed .closed) s (reached-within r)
+      (alike k) t code e
 
   alike-few : (i : ℕ) → getD (alike k) i 0 ≤ 3
   unfolding alike
@@ -107,7 +108,8 @@ module _ (k : ℕ) (old new : List ℕ) (limit count : ℕ) (ys ys′ : List Rec
       go : (t : List Situation) → search .todo ≡ t → Writes (connected k σ τ limit (length plan)) r plan plan
       go [] e = absurd (count-none (search .todo) (length (search .done)) (sym (explored .answer) ∙ none) (some-found e) e)
       go (s ∷ t) e =
-          subst⁻¹ (λ (o : Outcome). Writes o r plan plan) (ap (found k σ τ (length plan) (search .done)) e) (record { answer = a; written = sym (front-none plan) })
+          subst⁻¹ (λ (o : Outcome). Writes o r plan plan) (ap (found k σ τ (length plan) (search .done)) e)
+          (record { answer = a; written = sym (front-none plan) })
 
   module _ (old-sheet : IsSheet old) (new-sheet : IsSheet new) (rank : k ≤ 3) (some : count ≡ 0 → ⊥) where
     counted-some : (search .todo ≡ []) × (countBy (search .todo) (length (search .done)) ≡ length (search .done))
@@ -123,7 +125,8 @@ module _ (k : ℕ) (old new : List ℕ) (limit count : ℕ) (ys ys′ : List Rec
     held =
         record {
           whole = whole;
-          fits = λ s m. reached-fits k σ τ (sheet-formed old old-sheet) (sheet-formed new new-sheet) rank (is-reached (alike k) σ τ limit whole s m);
+          fits = λ s m. reached-fits k σ τ (sheet-formed old old-sheet) (sheet-formed new new-sheet) rank
+              (is-reached (alike k) σ τ limit whole s m);
           keys-hold = explored .keys whole;
           links-hold = explored .links whole;
         }

@@ -53,7 +53,8 @@ module _ (k n situations states rounds size : ℕ) (rows : List (List Move)) (r 
 
 -- ---- the records after the numbering
 
-module _ (k : ℕ) (old : List ℕ) (count rounds : ℕ) (ys : List Record) {states : ℕ} {ys′ : List Record} (unnumbered : UnnumberedTable count ys)
+module _ (k : ℕ) (old : List ℕ) (count rounds : ℕ) (ys : List Record) {states : ℕ} {ys′ : List Record}
+    (unnumbered : UnnumberedTable count ys)
     (into : NumberedInto count (statesAt count ys) states ys ys′) where
   pub numbered-states : NumberedTable count states ys′
   numbered-states = numbered-table ys (unnumbered .settled) into
@@ -79,7 +80,8 @@ module _ (k : ℕ) (old : List ℕ) (count rounds : ℕ) (ys : List Record) {sta
       pub plan-to-write : (n : ℕ) → ToWrite (planBytes n k (keptRowsAt count ys′)) count states ys′ plan
       plan-to-write n = record { table = numbered-states; room = omega (arith, size-is n k, fitting) }
 
-      pub plan-emitted : {n : ℕ} {plan′ : List ℕ} {r : Answer} → n ≡ contractIn old .n → plan′ ≡ front (planBytes n k (keptRowsAt count ys′)) plan
+      pub plan-emitted : {n : ℕ} {plan′ : List ℕ} {r : Answer} → n ≡ contractIn old .n
+          → plan′ ≡ front (planBytes n k (keptRowsAt count ys′)) plan
           → answerOf r ≡ counting 0 count states rounds size → Writes (emittedFrom k old count rounds ys (length plan)) r plan plan′
       plan-emitted {n} {plan′} {r} n-is written a =
           subst (λ (n : ℕ). Writes (emitted n k (length plan) count rounds rows) r plan plan′) n-is

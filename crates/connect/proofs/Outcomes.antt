@@ -125,8 +125,10 @@ module _ (k : ℕ) (old new : List ℕ) (work : List Record) (plan : List ℕ) w
       ∙ ap whole (sym (c .bad n (length work) (length plan))) ∙ is-whole
 
   -- or what follows, and all records cleared
-  pub connect-done : {first r : Answer} {plan′ : List ℕ} {work′ : List Record} (between : List Record) → Admits k old new first → first .number ≡ 0
-      → Writes (connected k (contractIn old) (contractIn new) (limitOf (length work)) (length plan)) r plan plan′ → length between ≡ length work
+  pub connect-done : {first r : Answer} {plan′ : List ℕ} {work′ : List Record} (between : List Record) → Admits k old new first
+      → first .number ≡ 0
+      → Writes (connected k (contractIn old) (contractIn new) (limitOf (length work)) (length plan)) r plan plan′
+      → length between ≡ length work
       → work′ ≡ cleared between
       → record { answer = answerOf r; plan = plan′; work = work′ } ≡ connectOf blank k old new work plan
   unfolding front

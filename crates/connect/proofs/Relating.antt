@@ -49,7 +49,8 @@ unfolding member unmarked any keep upto
 start-unmarked marks zero h = absurd (omega arith)
 start-unmarked marks (suc count) h = go (eqb (getD marks 0 0) 0)
   where
-    go : (t : Bool) → any (eqb 0) (cond t (0 ∷ keep (λ i. eqb (getD marks i 0) 0) (upto 1 count)) (keep (λ i. eqb (getD marks i 0) 0) (upto 1 count))) ≡ t
+    go : (t : Bool) → any (eqb 0) (cond t (0 ∷ keep (λ i. eqb (getD marks i 0) 0) (upto 1 count))
+        (keep (λ i. eqb (getD marks i 0) 0) (upto 1 count))) ≡ t
     go true = refl
     go false = above-start (λ i. eqb (getD marks i 0) 0) count 1 (omega arith)
 
@@ -67,7 +68,8 @@ module _ (k : ℕ) (σ τ : Contract) (keys links : List ℕ) (count room rounds
   unfolding relatedIn
   related-removed n = rw (start-stays, ne-eqb (getD marks′ 0 0) 0 n) (ap (λ (r : ℕ). counted 12 count 0 r []) (sym (done .rounds-are)))
 
-  related-kept : getD marks′ 0 0 ≡ 0 → relatedIn k σ τ keys links count room ≡ emitted (σ .n) k room count rounds (keptRows links marks′ count)
+  related-kept : getD marks′ 0 0 ≡ 0
+      → relatedIn k σ τ keys links count room ≡ emitted (σ .n) k room count rounds (keptRows links marks′ count)
   unfolding relatedIn keptRows
   related-kept e =
       let r = sym (done .rounds-are) in
@@ -76,7 +78,8 @@ module _ (k : ℕ) (σ τ : Contract) (keys links : List ℕ) (count room rounds
 
 -- ---- the records after the rounds
 
-module _ (k : ℕ) (old new : List ℕ) (count rounds : ℕ) (ys : List Record) {ys′ : List Record} (searched : SearchedTable old new count ys) (some : 0 < count)
+module _ (k : ℕ) (old new : List ℕ) (count rounds : ℕ) (ys : List Record) {ys′ : List Record} (searched : SearchedTable old new count ys)
+    (some : 0 < count)
     (settled : SettledWork (contractIn old) (contractIn new) count rounds ys ys′) where
   pub start-there : 0 < length ys′
   start-there = omega (arith, searched .situated .room, settled .size)
@@ -120,5 +123,6 @@ module _ (k : ℕ) (old new : List ℕ) (count rounds : ℕ) (ys : List Record) 
           subst⁻¹ (λ (o : Outcome). Writes o r plan plan′)
           (related-kept k (contractIn old) (contractIn new) (keysOf ys) (linksOf ys) count (length plan) rounds (marksOf ys) (marksOf ys′)
           (settled .done) some (start-mark ∙ kept))
-          (subst (λ (links : List ℕ). Writes (emitted (contractIn old .n) k (length plan) count rounds (keptRows links (marksOf ys′) count)) r plan plan′)
+          (subst (λ (links : List ℕ). Writes
+          (emitted (contractIn old .n) k (length plan) count rounds (keptRows links (marksOf ys′) count)) r plan plan′)
           (settled .links) w)

@@ -99,14 +99,16 @@ module _ (k : ℕ) (σ τ : Contract) (limit : ℕ) where
     pub whole : searched .todo ≡ []
     pub fits : (s : Situation) → List·Memᴰ s done → Fits s
     pub keys-hold : take count keys ≡ map keyOf done
-    pub links-hold : (i code : ℕ) → i < count → List·Memᴰ code codes → nextIn links i code ≡ Option·map (λ t. place (same t) done) (nx (name i) code)
+    pub links-hold : (i code : ℕ) → i < count → List·Memᴰ code codes
+        → nextIn links i code ≡ Option·map (λ t. place (same t) done) (nx (name i) code)
 
   module _ (keys links : List ℕ) (h : HoldsSearch keys links) where
     inv : Inv codes nx start done (searched .todo)
     inv = search-inv same is-same codes nx start limit
 
     distinct : Distinct done
-    distinct = subst (λ (l : List Situation). Distinct l) (ap (λ (l : List Situation). done ++ l) (h .whole) ∙ append-nil done) (inv .distinct)
+    distinct = subst (λ (l : List Situation). Distinct l) (ap (λ (l : List Situation). done ++ l) (h .whole) ∙ append-nil done)
+        (inv .distinct)
 
     agree : (a b : ℕ) → Domain a → Domain b → same (name a) (name b) ≡ eqb a b
     agree a b p q = go (eqb a b) refl
@@ -124,7 +126,8 @@ module _ (k : ℕ) (σ τ : Contract) (limit : ℕ) where
     step : (i code : ℕ) → Domain i → List·Memᴰ code codes → nx (name i) code ≡ Option·map name (nextIn links i code)
     step i code p m = go (nx (name i) code) refl ∙ ap (Option·map name) (sym (h .links-hold i code p m))
       where
-        go : (o : Option Situation) → nx (name i) code ≡ o → nx (name i) code ≡ Option·map name (Option·map (λ t. place (same t) done) (nx (name i) code))
+        go : (o : Option Situation) → nx (name i) code ≡ o
+            → nx (name i) code ≡ Option·map name (Option·map (λ t. place (same t) done) (nx (name i) code))
         go none e = rw e refl
         go (some t) e =
             rw e (ap some (sym (at-getD done (place (same t) done) start t (place-at same is-same (found-next i code t p m e)))))
@@ -135,7 +138,8 @@ module _ (k : ℕ) (σ τ : Contract) (limit : ℕ) where
         go : (o : Option Situation) → nx (name i) code ≡ o → Domain j
         go none z = absurd (Option·none-ne-some j (ap (Option·map (λ t. place (same t) done)) (sym z) ∙ sym (h .links-hold i code p m) ∙ e))
         go (some t) z =
-            let q : place (same t) done ≡ j = Option·some-injective _ j (ap (Option·map (λ t. place (same t) done)) (sym z) ∙ sym (h .links-hold i code p m) ∙ e) in
+            let q : place (same t) done ≡ j = Option·some-injective _ j
+            (ap (Option·map (λ t. place (same t) done)) (sym z) ∙ sym (h .links-hold i code p m) ∙ e) in
             subst (λ (n : ℕ). n < count) q (mem-at done (place (same t) done) t (place-at same is-same (found-next i code t p m z)))
 
     renumbering : Renumbering same eqb codes nx (nextIn links) name Domain
@@ -164,7 +168,8 @@ module _ (k : ℕ) (σ τ : Contract) (limit : ℕ) where
     unfolding settledOf settledIn testIn
     settled-table =
         ap (settled same codes nx (test σ τ)) (sym (places-all done [] start))
-        ∙ settled-renumber renumbering (testIn σ τ keys) (test σ τ) (λ A i p. ap (test σ τ A) (sym (key-names i p))) (upto 0 count) all-within
+        ∙ settled-renumber renumbering (testIn σ τ keys) (test σ τ) (λ A i p. ap (test σ τ A) (sym (key-names i p))) (upto 0 count)
+        all-within
 
     -- ---- the start
 

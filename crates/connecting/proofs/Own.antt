@@ -9,7 +9,8 @@ use Rattle.table.specs.declared.Record.{Record}
 use Rattle.table.specs.Records.{blank}
 use Rattle.connecting.specs.Own.{ownOf}
 
-pub own-outcome : (k : ℕ) (old new plan : List ℕ) (z : Record) (table : List Record) (left : Connected Record) → z ≡ blank → table ≡ replicate 1024 z → left ≡ connectOf blank k old new table plan
+pub own-outcome : (k : ℕ) (old new plan : List ℕ) (z : Record) (table : List Record) (left : Connected Record) → z ≡ blank
+    → table ≡ replicate 1024 z → left ≡ connectOf blank k old new table plan
     → left ≡ ownOf k old new plan
 unfolding ownOf
 own-outcome k old new plan z table left zero made e =

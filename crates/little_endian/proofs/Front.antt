@@ -42,7 +42,8 @@ front-then at xs ys v w zs y a h e =
     let t : take at ys ≡ v = ap (take at) y ∙ take-at v _ at (sym a) in
     let d : drop at ys ≡ drop at xs = ap (drop at) y ∙ drop-at v _ at (sym a) ∙ ap (λ (k : ℕ). drop k xs) (sym a) in
     let k : at + length w ≡ length (v ++ w) = omega (arith, length-append v w) in
-    rest-is at ys w zs (omega arith) e ∙ ap₂ (λ (p q : List ℕ). (p ++ w) ++ q) t (drop-more at (length w) ys xs d) ∙ ap (λ (j : ℕ). (v ++ w) ++ drop j xs) k
+    rest-is at ys w zs (omega arith) e ∙ ap₂ (λ (p q : List ℕ). (p ++ w) ++ q) t (drop-more at (length w) ys xs d)
+    ∙ ap (λ (j : ℕ). (v ++ w) ++ drop j xs) k
 
 -- ---- single bytes
 

@@ -6,7 +6,8 @@ use Prim.Native.Nat.{ℕ}
 use native.Mathlib.Omega.{arith}
 use lib.Dec.{eqb}
 use borrow.Author.Tests.{eq-eqb, ne-eqb}
-use Rattle.model.specs.Sheet.{Reading, good, refusal, check, then, Fault, Sheet, readSheet, Refusal, inPlace, plain, Both, readBoth, sheetOf, contractIn, roleIn}
+use Rattle.model.specs.Sheet.{Reading, good, refusal, check, then, Fault, Sheet, readSheet, Refusal, inPlace, plain, Both, readBoth}
+use Rattle.model.specs.Sheet.{sheetOf, contractIn, roleIn}
 use Rattle.model.specs.Contract.{Contract}
 use Rattle.model.proofs.Sheet.{both-elim}
 use Rattle.sheet.specs.Whole.{IsSheet}
@@ -52,7 +53,8 @@ module _ (role₁ role₂ : ℕ) (b₁ b₂ : List ℕ) where
     places =
         check (eqb (s₁ .0 .role) role₁) (plain 8 1)
         (check (eqb (s₂ .0 .role) role₂) (plain 8 2)
-        (check (eqb (s₁ .0 .contract .n) (s₂ .0 .contract .n)) (plain 9 0) (good (record { one = s₁ .0 .contract; two = s₂ .0 .contract }))))
+        (check (eqb (s₁ .0 .contract .n) (s₂ .0 .contract .n)) (plain 9 0)
+        (good (record { one = s₁ .0 .contract; two = s₂ .0 .contract }))))
 
     at-places : readBoth role₁ role₂ b₁ b₂ ≡ places
     unfolding readBoth inPlace then
@@ -65,7 +67,11 @@ module _ (role₁ role₂ : ℕ) (b₁ b₂ : List ℕ) where
     pub second-role : roleIn b₁ ≡ role₁ → (roleIn b₂ ≡ role₂ → ⊥) → P.Refused 8 2 0 0 ≡ read
     unfolding check plain pairOf
     second-role p n =
-        sym (ap pairOf at-places ∙ rw (eq-eqb (s₁ .0 .role) role₁ (sym (role-is b₁ s₁) ∙ p), ne-eqb (s₂ .0 .role) role₂ (λ e. n (role-is b₂ s₂ ∙ e))) refl)
+        sym (ap pairOf at-places ∙ rw (
+          eq-eqb (s₁ .0 .role) role₁ (sym (role-is b₁ s₁) ∙ p),
+          ne-eqb (s₂ .0 .role) role₂
+              (λ e. n (role-is b₂ s₂ ∙ e)),
+        ) refl)
 
     module _ (p : roleIn b₁ ≡ role₁) (q : roleIn b₂ ≡ role₂) where
       pub other-names : (contractIn b₁ .n ≡ contractIn b₂ .n → ⊥) → P.Refused 9 0 0 0 ≡ read
@@ -106,18 +112,21 @@ module _ (role₁ role₂ : ℕ) (b₁ b₂ : List ℕ) where
           let n : _≡_ {A = ℕ} 0 1 = cc in
           absurd (omega arith)
       go (refusal f) q =
-          let z : P.Refused (f .number) (f .sheet) (f .state) (f .offset) ≡ P.Refused number sheet state offset = sym (ap pairOf q) ∙ sym e ∙ w in
+          let z : P.Refused (f .number) (f .sheet) (f .state) (f .offset) ≡ P.Refused number sheet state offset = sym (ap pairOf q) ∙ sym e
+          ∙ w in
           let p : f .number ≡ number = cc in
           let h : f .sheet ≡ sheet = cc in
           let s : f .state ≡ state = cc in
           let o : f .offset ≡ offset = cc in
           q ∙ (λ i. refusal (record { number = p i; sheet = h i; state = s i; offset = o i }))
 
-  pub good-both : (r : Pair) → r ≡ read → r ≡ P.Good → readBoth role₁ role₂ b₁ b₂ ≡ good (record { one = contractIn b₁; two = contractIn b₂ })
+  pub good-both : (r : Pair) → r ≡ read → r ≡ P.Good
+      → readBoth role₁ role₂ b₁ b₂ ≡ good (record { one = contractIn b₁; two = contractIn b₂ })
   unfolding pairOf
   good-both r e w = go (readBoth role₁ role₂ b₁ b₂) refl
     where
-      go : (x : Reading Refusal Both) → readBoth role₁ role₂ b₁ b₂ ≡ x → readBoth role₁ role₂ b₁ b₂ ≡ good (record { one = contractIn b₁; two = contractIn b₂ })
+      go : (x : Reading Refusal Both) → readBoth role₁ role₂ b₁ b₂ ≡ x
+          → readBoth role₁ role₂ b₁ b₂ ≡ good (record { one = contractIn b₁; two = contractIn b₂ })
       go (good s) q =
           let b = both-elim role₁ role₂ b₁ b₂ s q in
           let one : s .one ≡ contractIn b₁ = b .is-one ∙ sym (contract-is b₁ (b .sheet₁, b .read₁)) in

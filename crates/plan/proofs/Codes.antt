@@ -30,7 +30,14 @@ module _ (code n : ℕ) where
 
   pub named-service : 32 ≤ code → code ≤ 45 → ltb (name (code - 32)) n ≡ namedBelow n (kindOf code)
   unfolding namedBelow kindOf
-  named-service l h = simp (lt-leb code 13 (omega arith), le-leb 16 code (omega arith), lt-leb code 29 (omega arith), le-leb _ _ l, le-leb _ _ h)
+  named-service l h = simp (
+    lt-leb code 13 (omega arith),
+    le-leb 16 code (omega arith),
+    lt-leb code 29 (omega arith),
+    le-leb _ _ l,
+    le-leb
+        _ _ h,
+  )
 
   -- between the ranges and beyond them
   pub stray-low : 13 < code → code < 16 → false ≡ namedBelow n (kindOf code)
@@ -43,4 +50,11 @@ module _ (code n : ℕ) where
 
   pub stray-high : 45 < code → false ≡ namedBelow n (kindOf code)
   unfolding namedBelow kindOf
-  stray-high l = simp (lt-leb code 13 (omega arith), le-leb 16 code (omega arith), lt-leb code 29 (omega arith), le-leb 32 code (omega arith), lt-leb _ _ l)
+  stray-high l = simp (
+    lt-leb code 13 (omega arith),
+    le-leb 16 code (omega arith),
+    lt-leb code 29 (omega arith),
+    le-leb 32 code
+        (omega arith),
+    lt-leb _ _ l,
+  )

@@ -24,7 +24,8 @@ module _ (b : List ℕ) (index count n : ℕ) where
     unfolding goodPlace
     place-past h l = simp (eq-eqb _ _ h, lt-leb _ _ l)
 
-    pub place-row : dword b (index + 4 * p) ≡ i → i + 1 + 3 * byte b i ≤ index → goodRow n count (readMoves b (i + 1) (byte b i)) ≡ goodPlace b index count n p i
+    pub place-row : dword b (index + 4 * p) ≡ i → i + 1 + 3 * byte b i ≤ index
+        → goodRow n count (readMoves b (i + 1) (byte b i)) ≡ goodPlace b index count n p i
     unfolding goodPlace
     place-row h l = simp (eq-eqb _ _ h, le-leb _ _ l)
 
@@ -38,7 +39,8 @@ module _ (b : List ℕ) (index count n : ℕ) where
         (eqb-true _ _ (and-left says ends w), leb-true _ _ (and-right says ends w))
 
   rows-left : (left p i : ℕ) (good : Bool) → goodPlace b index count n p i ≡ good
-      → isSome (readRows b index count n (suc left) p i) ≡ cond good (isSome (readRows b index count n left (suc p) (i + 1 + 3 * byte b i))) false
+      → isSome (readRows b index count n (suc left) p i) ≡ cond good
+      (isSome (readRows b index count n left (suc p) (i + 1 + 3 * byte b i))) false
   unfolding readRows goodPlace isSome
   rows-left left p i true e = rw e (is-some-map _ (readRows b index count n left (suc p) (i + 1 + 3 * byte b i)))
   rows-left left p i false e = rw e
@@ -52,7 +54,9 @@ module _ (b : List ℕ) (index count n : ℕ) where
     rows-bad h g = let e : rows - p ≡ suc (rows - (p + 1)) = omega arith in rw e (rows-left (rows - (p + 1)) p i false g)
 
     pub rows-more : p < rows → goodPlace b index count n p i ≡ true
-        → isSome (readRows b index count n (rows - p) p i) ≡ isSome (readRows b index count n (rows - (p + 1)) (p + 1) (i + 1 + 3 * byte b i))
+        → isSome (readRows b index count n (rows - p) p i) ≡ isSome
+        (readRows b index count n (rows - (p + 1)) (p + 1) (i + 1 + 3 * byte b i))
     rows-more h g =
         let e : rows - p ≡ suc (rows - (p + 1)) = omega arith in
-        rw e (rows-left (rows - (p + 1)) p i true g ∙ ap (λ (q : ℕ). isSome (readRows b index count n (rows - (p + 1)) q (i + 1 + 3 * byte b i))) (sym (add-one p)))
+        rw e (rows-left (rows - (p + 1)) p i true g
+        ∙ ap (λ (q : ℕ). isSome (readRows b index count n (rows - (p + 1)) q (i + 1 + 3 * byte b i))) (sym (add-one p)))

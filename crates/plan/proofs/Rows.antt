@@ -32,7 +32,8 @@ module _ (n count : ℕ) where
   goodFrom low (m ∷ row) = leb low (m .code) && (goodMove n count m && goodFrom (suc (m .code)) row)
 
   -- the same with the three tests of `goodRow` apart
-  from-is : (low : ℕ) (m : Move) (row : List Move) → goodFrom low (m ∷ row) ≡ (leb low (m .code) && (ascending (m ∷ row) && all (goodMove n count) (m ∷ row)))
+  from-is : (low : ℕ) (m : Move) (row : List Move)
+      → goodFrom low (m ∷ row) ≡ (leb low (m .code) && (ascending (m ∷ row) && all (goodMove n count) (m ∷ row)))
   unfolding goodFrom ascending all
   from-is low m [] = refl
   from-is low m (l ∷ row) =
@@ -42,7 +43,8 @@ module _ (n count : ℕ) where
   good-is : (row : List Move) → (ascending row && all (goodMove n count) row) ≡ goodFrom 0 row
   unfolding goodFrom ascending all
   good-is [] = refl
-  good-is (m ∷ row) = sym (from-is 0 m row ∙ ap (λ (t : Bool). t && (ascending (m ∷ row) && all (goodMove n count) (m ∷ row))) (leb·zero (m .code)))
+  good-is (m ∷ row) = sym (from-is 0 m row
+      ∙ ap (λ (t : Bool). t && (ascending (m ∷ row) && all (goodMove n count) (m ∷ row))) (leb·zero (m .code)))
 
   module _ (b : List ℕ) (i : ℕ) where
     pub good-long : (size : ℕ) → 42 < size → false ≡ goodRow n count (readMoves b i size)
@@ -63,7 +65,8 @@ module _ (n count : ℕ) where
     good-low low zero h l = absurd (omega arith)
     good-low low (suc left) h l = simp (lt-leb _ _ l)
 
-    pub good-bad : (low left : ℕ) → 0 < left → low ≤ byte b i → goodMove n count (moveAt b i) ≡ false → goodFrom low (readMoves b i left) ≡ false
+    pub good-bad : (low left : ℕ) → 0 < left → low ≤ byte b i → goodMove n count (moveAt b i) ≡ false
+        → goodFrom low (readMoves b i left) ≡ false
     unfolding goodFrom readMoves moveAt
     good-bad low zero h l g = absurd (omega arith)
     good-bad low (suc left) h l g = simp (le-leb _ _ l, g)
@@ -87,7 +90,8 @@ module _ (b : List ℕ) (i code : ℕ) where
   held-here zero h e = absurd (omega arith)
   held-here (suc left) h e = simp (eq-eqb _ _ e)
 
-  pub held-more : (left : ℕ) → 0 < left → (byte b i ≡ code → ⊥) → held (readMoves b i left) code ≡ held (readMoves b (i + 3) (left - 1)) code
+  pub held-more : (left : ℕ) → 0 < left → (byte b i ≡ code → ⊥)
+      → held (readMoves b i left) code ≡ held (readMoves b (i + 3) (left - 1)) code
   unfolding held readMoves
   held-more zero h e = absurd (omega arith)
   held-more (suc left) h e = simp (ne-eqb _ _ e) (simp unary-clauses)

@@ -35,7 +35,8 @@ module _ (b : List ℕ) (index count n : ℕ) where
   rows-none : (p : ℕ) {rows : List (List Move)} → [] ≡ rows → Rows 0 p rows
   rows-none p e = subst (Rows 0 p) e (record { size = refl; within = λ q h. absurd (omega arith); row = λ q h. absurd (omega arith) })
 
-  rows-one-more : (left p i : ℕ) (rows : List (List Move)) → placeOf p ≡ i → i + 1 + 3 * byte b i ≤ index → Rows left (suc p) rows → Rows (suc left) p (rowAt i ∷ rows)
+  rows-one-more : (left p i : ℕ) (rows : List (List Move)) → placeOf p ≡ i → i + 1 + 3 * byte b i ≤ index → Rows left (suc p) rows
+      → Rows (suc left) p (rowAt i ∷ rows)
   rows-one-more left p i rows e h r =
       record { size = ap suc (r .size); within = within; row = row }
     where
@@ -60,7 +61,8 @@ module _ (b : List ℕ) (index count n : ℕ) where
       let w = cond-some (goodPlace b index count n p i) _ _ e in
       let good = place-within b index count n p i (is-true _ (w .0)) in
       let rest = map-elim _ (readRows b index count n left (suc p) (i + 1 + 3 * byte b i)) (w .1) in
-      subst (Rows (suc left) p) (rest .2) (rows-one-more left p i (rest .0) (good .0) (good .1) (rows-read left (suc p) (i + 1 + 3 * byte b i) (rest .1)))
+      subst (Rows (suc left) p) (rest .2)
+      (rows-one-more left p i (rest .0) (good .0) (good .1) (rows-read left (suc p) (i + 1 + 3 * byte b i) (rest .1)))
 
 module _ (b : List ℕ) where
   abbrev indexOf : ℕ

@@ -27,11 +27,13 @@ module _ (b : List ℕ) (index count n k : ℕ) where
   regrouped : (o : Option Plan) (rows : Bool) → isSome o ≡ rows
       → isSome (cond test o none) ≡ (leb 8 (length b) && (figuresInRange count n k && eqb (index + 4 * count + 8) (length b)) && rows)
   unfolding figuresInRange
-  regrouped o rows h = is-some-cond test o ∙ rw (regroup (leb 1 count) (leb count 4096) (leb n 7) (leb k 3) (eqb (index + 4 * count + 8) (length b)), h)
+  regrouped o rows h = is-some-cond test o
+      ∙ rw (regroup (leb 1 count) (leb count 4096) (leb n 7) (leb k 3) (eqb (index + 4 * count + 8) (length b)), h)
 
   -- length, trailer, index, rows: the order of the code
   tests : isSome (readWith b index count n k)
-      ≡ (leb 8 (length b) && (figuresInRange count n k && eqb (index + 4 * count + 8) (length b)) && isSome (readRows b index count n count 0 0))
+      ≡ (leb 8 (length b) && (figuresInRange count n k && eqb (index + 4 * count + 8) (length b)) && isSome
+      (readRows b index count n count 0 0))
   unfolding readWith
   tests = regrouped _ _ (is-some-map _ (readRows b index count n count 0 0))
 
@@ -50,7 +52,8 @@ plan-short b h = sym (tests b _ _ _ _ ∙ rw (lt-leb 8 (length b) h))
 -- by numbers that were read from the trailer
 module _ (b : List ℕ) (long : 8 ≤ length b) (index count n k : ℕ) (i : index ≡ dword b (length b - 8)) (c : count ≡ word b (length b - 4))
     (x : n ≡ byte b (length b - 2)) (y : k ≡ byte b (length b - 1)) where
-  plan-tests : (leb 8 (length b) && (figuresInRange count n k && eqb (index + 4 * count + 8) (length b)) && isSome (readRows b index count n count 0 0)) ≡ isSome (readPlan b)
+  plan-tests : (leb 8 (length b) && (figuresInRange count n k && eqb (index + 4 * count + 8) (length b)) && isSome
+      (readRows b index count n count 0 0)) ≡ isSome (readPlan b)
   unfolding readPlan
   plan-tests = sym (rw (sym i, sym c, sym x, sym y) (tests b index count n k))
 
@@ -60,5 +63,6 @@ module _ (b : List ℕ) (long : 8 ≤ length b) (index count n k : ℕ) (i : ind
   pub plan-index : figuresInRange count n k ≡ true → (index + 4 * count + 8 ≡ length b → ⊥) → false ≡ isSome (readPlan b)
   plan-index h e = rw (le-leb 8 (length b) long, h, ne-eqb _ _ e) at plan-tests
 
-  pub plan-rows : figuresInRange count n k ≡ true → index + 4 * count + 8 ≡ length b → isSome (readRows b index count n count 0 0) ≡ isSome (readPlan b)
+  pub plan-rows : figuresInRange count n k ≡ true → index + 4 * count + 8 ≡ length b
+      → isSome (readRows b index count n count 0 0) ≡ isSome (readPlan b)
   plan-rows h e = rw (le-leb 8 (length b) long, h, eq-eqb _ _ e) at plan-tests

@@ -38,4 +38,9 @@ module _ {b : List ℕ} {q : ℕ} {over : List ℕ → Bool} {count i : ℕ} (v 
 
       pub sets-onward : t ≡ not stop → ReadySets b q over count (i + 1)
       sets-onward e =
-          record { number = v .number; place = omega arith; rest = onward by (readyOf b q) i (v .rest) 0 (omega (arith, v .number)) at tested e }
+          record {
+            number = v .number;
+            place = omega arith;
+            rest = onward by (readyOf b q) i (v .rest) 0 (omega (arith, v .number)) at
+                tested e;
+          }

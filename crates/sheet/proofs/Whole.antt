@@ -121,7 +121,13 @@ module _ {b : List ℕ} {q j : ℕ} (is : IsOffered b q j) where
   unfolding offers
   place-within =
       let bit = has-union (stateIn b q .ready) j ∙ is .offered in
-      omega (arith, row-stands (is .at) .offered, ones-offered (stateIn b q .ready), ones-less (unionOf (stateIn b q .ready)) j 14 bit (is .action))
+      omega (
+        arith,
+        row-stands (is .at) .offered,
+        ones-offered (stateIn b q .ready),
+        ones-less (unionOf (stateIn b q .ready)) j 14 bit
+            (is .action),
+      )
 
   -- its successor stands behind the masks, at its place: the row's offset, 1, 2 for each ready set, and the lower actions offered
   pub successor-within : {o : Offer} → o ≡ offerIn b q → placeIn o j < length b

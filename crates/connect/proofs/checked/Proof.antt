@@ -23,7 +23,8 @@ refusal-requires-2 c κs = search needs
 returns : tie.Need-returns
 returns c =
     let told = c .before .before in
-    rank-checked _ _ _ _ (told .before .before .check-pair .ensures) _ (told .enum-told .given .1) (c .before .if1 .taken) (c .refusal2 .ensures)
+    rank-checked _ _ _ _ (told .before .before .check-pair .ensures) _ (told .enum-told .given .1) (c .before .if1 .taken)
+    (c .refusal2 .ensures)
 
 refusal-requires-3 : tie.Need-refusal-requires-3
 refusal-requires-3 c κs = search needs
@@ -36,7 +37,8 @@ returns-2 c =
 returns-3 : tie.Need-returns-3
 returns-3 c =
     let told = c .before .before in
-    good-checked _ _ _ _ (told .before .before .check-pair .ensures) _ (told .enum-told .given .1) (c .before .if1 .left) (c .refusal3 .ensures)
+    good-checked _ _ _ _ (told .before .before .check-pair .ensures) _ (told .enum-told .given .1) (c .before .if1 .left)
+    (c .refusal3 .ensures)
 
 pub checked-spec : {M : Type 1} → statement M
 checked-spec =

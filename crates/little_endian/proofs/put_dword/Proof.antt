@@ -41,7 +41,8 @@ unfolding le32 le16
 returns c =
     let first = c .before .before .before .before .before .before .put-word .ensures in
     let xs = c .before .before .before .before .before .before .before .before .before .args .out .now in
-    front-then 2 xs _ _ _ _ (first ∙ ap (λ (w : List ℕ). front w xs) (low-half _)) refl (omega arith) (c .before .before .put-word2 .ensures)
+    front-then 2 xs _ _ _ _ (first ∙ ap (λ (w : List ℕ). front w xs) (low-half _)) refl (omega arith)
+    (c .before .before .put-word2 .ensures)
 
 pub put-dword-spec : {M : Type 1} → statement M
 put-dword-spec =

@@ -26,7 +26,12 @@ mul-result : tie.Need-mul-result
 mul-result c = omega (arith, c .shared-slice-known2 .given (c .before .before .args .i + 1))
 
 add-result-2 : tie.Need-add-result-2
-add-result-2 c = omega (arith, c .shared-slice-known2 .given (c .before .before .args .i + 1), c .before .shared-slice-known .given (c .before .before .args .i))
+add-result-2 c = omega (
+  arith,
+  c .shared-slice-known2 .given (c .before .before .args .i + 1),
+  c .before .shared-slice-known .given
+      (c .before .before .args .i),
+)
 
 returns : tie.Need-returns
 unfolding word byte

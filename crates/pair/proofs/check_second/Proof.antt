@@ -22,7 +22,8 @@ check-places-requires c κs =
 
 returns : tie.Need-returns
 returns c =
-    second-refused _ _ _ _ (c .before .before .before .before .before .before .pre) _ _ _ _ (c .before .before .before .check-sheet .ensures) (c .before .number .given .1)
+    second-refused _ _ _ _ (c .before .before .before .before .before .before .pre) _ _ _ _
+    (c .before .before .before .check-sheet .ensures) (c .before .number .given .1)
 
 returns-2 : tie.Need-returns-2
 returns-2 c = search needs

@@ -24,7 +24,8 @@ row-stands : (c : tie.After-dword-at2) →
     let row = c .dword-at2 .result in
     row + 1 + 3 * byte plan row ≤ length plan
 row-stands c =
-    row-fits _ (is-plan (c .before .before .before .before)) _ _ (c .before .before .before .word-at .ensures) (c .before .before .if2 .left)
+    row-fits _ (is-plan (c .before .before .before .before)) _ _ (c .before .before .before .word-at .ensures)
+    (c .before .before .if2 .left)
     _ (c .before .dword-at .ensures) _ (c .dword-at2 .ensures)
 
 is-plan-requires : tie.Need-is-plan-requires
@@ -56,7 +57,8 @@ add-dword-at : tie.Need-add-dword-at
 add-dword-at c = search needs
 
 dword-at-requires-2 : tie.Need-dword-at-requires-2
-dword-at-requires-2 c κs = entry-fits _ (is-plan (c .before .before .before)) _ _ (c .before .before .word-at .ensures) (c .before .if2 .left) _ (c .dword-at .ensures)
+dword-at-requires-2 c κs = entry-fits _ (is-plan (c .before .before .before)) _ _ (c .before .before .word-at .ensures)
+    (c .before .if2 .left) _ (c .dword-at .ensures)
 
 cast-row : tie.Need-cast-row
 cast-row c = search needs
@@ -80,7 +82,8 @@ returns-2 c =
     let d = c .before .before .before in
     let state = d .before .if2 .left in
     let count = d .before .before .word-at .ensures in
-    let row = step-state _ (is-plan (d .before .before .before)) _ _ count state _ (d .dword-at .ensures) _ (c .before .before .dword-at2 .ensures) _ in
+    let row = step-state _ (is-plan (d .before .before .before)) _ _ count state _ (d .dword-at .ensures) _
+    (c .before .before .dword-at2 .ensures) _ in
     c .step-row .ensures ∙ ap steppedOf row
 
 returns-3 : tie.Need-returns-3

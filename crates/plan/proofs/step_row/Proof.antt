@@ -35,7 +35,8 @@ unfolding byte steppedOf stepRow
 returns c =
     let l = c .before .before .before .before .loop in
     let found : held (readMoves _ (l .at) (l .left)) _ ≡ some _ = held-here _ (l .at) _ (l .left) (omega arith) (c .before .if1 .taken) in
-    ap (λ (w : ℕ). record { number = 0; state = w }) (c .word-at .ensures) ∙ sym (ap (λ (o : Option ℕ). steppedOf (stepRow o)) (l .inv .0 ∙ found))
+    ap (λ (w : ℕ). record { number = 0; state = w }) (c .word-at .ensures)
+    ∙ sym (ap (λ (o : Option ℕ). steppedOf (stepRow o)) (l .inv .0 ∙ found))
 
 add-at : tie.Need-add-at Inv-loop μ-loop
 add-at c = omega arith
@@ -48,7 +49,11 @@ loop-less c = omega arith
 
 loop-again : tie.Need-loop-again Inv-loop μ-loop
 unfolding byte
-loop-again c = let l = c .before .before .before .loop in (l .inv .0 ∙ held-more _ (l .at) _ (l .left) (omega arith) (c .if1 .left), (omega arith, omega arith))
+loop-again c = let l = c .before .before .before .loop in (
+  l .inv .0
+      ∙ held-more _ (l .at) _ (l .left) (omega arith) (c .if1 .left),
+  (omega arith, omega arith),
+)
 
 returns-2 : tie.Need-returns-2 Inv-loop μ-loop
 unfolding steppedOf stepRow

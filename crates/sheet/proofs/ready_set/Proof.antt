@@ -27,7 +27,8 @@ word-at-requires c κs = omega (arith, row-within (c .before .before .pre .0))
 returns : tie.Need-returns
 returns c =
     c .word-at .ensures ∙ ap (λ (p : ℕ). word (c .before .before .before .args .b .now)
-    (p + 1 + 2 * c .before .before .before .args .i)) (c .before .row-start .ensures) ∙ row-stands (c .before .before .before .pre .0) .masks _
+    (p + 1 + 2 * c .before .before .before .args .i)) (c .before .row-start .ensures)
+    ∙ row-stands (c .before .before .before .pre .0) .masks _
     (c .before .before .before .pre .1)
 
 pub ready-set-spec : {M : Type 1} → statement M

@@ -58,4 +58,5 @@ returns c =
     (c .both5 .ensures)
 
 pub record-is-spec : {M : Type 1} → statement M
-record-is-spec = tie.close (tie.spec counts-are-requires is-wide-requires both-requires singles-are-requires last-is-requires both-requires-2 next-is-requires before-is-requires both-requires-3 both-requires-4 both-requires-5 returns)
+record-is-spec = tie.close (tie.spec counts-are-requires is-wide-requires both-requires singles-are-requires last-is-requires
+    both-requires-2 next-is-requires before-is-requires both-requires-3 both-requires-4 both-requires-5 returns)

@@ -8,7 +8,8 @@ use Rattle.cases.proofs.runs.followed.Statement.{statement}
 use Rattle.cases.proofs.runs.followed.Tie as tie
 
 abbrev Inv-loop : tie.InvT-loop
-Inv-loop client service plan attempts run₀ at₀ run at = (at ≤ length attempts) × IsState client (run .client) × IsState service (run .service)
+Inv-loop client service plan attempts run₀ at₀ run at = (at ≤ length attempts) × IsState client (run .client) × IsState service
+    (run .service)
 
 abbrev μ-loop : tie.MeasureT-loop
 μ-loop client service plan attempts run₀ at₀ run at = length attempts - at

@@ -17,7 +17,12 @@ successor-requires c κs =
 returns : tie.Need-returns
 returns c =
     let given = c .before .before .before .before .pre in
-    successor-state (record { at = given .0; action = given .1; offered = sym (c .before .before .offers-action .ensures) ∙ c .before .if1 .taken }) (c .successor .ensures)
+    successor-state (record {
+      at = given .0;
+      action = given .1;
+      offered = sym (c .before .before .offers-action .ensures)
+          ∙ c .before .if1 .taken;
+    }) (c .successor .ensures)
 
 returns-2 : tie.Need-returns-2
 returns-2 c = search needs

@@ -28,7 +28,8 @@ has-bit-requires-4 c κs = search needs
 
 returns : tie.Need-returns
 returns c =
-    straight-needs _ _ _ _ true _ (omega arith) (c .before .partner .ensures .0) (sym (c .before .before .if2 .taken) ∙ c .before .before .before .has-bit .ensures) (c .has-bit2 .ensures)
+    straight-needs _ _ _ _ true _ (omega arith) (c .before .partner .ensures .0)
+    (sym (c .before .before .if2 .taken) ∙ c .before .before .before .has-bit .ensures) (c .has-bit2 .ensures)
 
 returns-2 : tie.Need-returns-2
 returns-2 c = c .if2 .left ∙ straight-lacks _ _ _ (omega arith) (sym (c .before .has-bit .ensures) ∙ c .if2 .left)

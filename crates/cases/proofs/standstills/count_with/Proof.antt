@@ -12,7 +12,8 @@ use Rattle.cases.proofs.standstills.count_with.Statement.{statement}
 use Rattle.cases.proofs.standstills.count_with.Tie as tie
 
 abbrev Inv-loop : tie.InvT-loop
-Inv-loop service q plan state R count found₀ i₀ found i = (i ≤ count) × (count ≡ length (model.state (contractIn service) q .ready)) × (found ≤ i)
+Inv-loop service q plan state R count found₀ i₀ found
+    i = (i ≤ count) × (count ≡ length (model.state (contractIn service) q .ready)) × (found ≤ i)
 
 abbrev μ-loop : tie.MeasureT-loop
 μ-loop service q plan state R count found₀ i₀ found i = count - i

@@ -40,7 +40,8 @@ mul-if3 c = omega (arith, c .shared-slice-known2 .given (c .before .before .befo
 
 returns-3 : tie.Need-returns-3
 unfolding byte
-returns-3 c = place-past _ _ _ _ _ _ (sym (c .before .before .before .before .dword-at .ensures) ∙ c .before .before .before .if1 .left) (omega arith)
+returns-3 c = place-past _ _ _ _ _ _ (sym (c .before .before .before .before .dword-at .ensures) ∙ c .before .before .before .if1 .left)
+    (omega arith)
 
 add-good-row : tie.Need-add-good-row
 add-good-row c = search needs
@@ -52,7 +53,8 @@ returns-4 : tie.Need-returns-4
 unfolding byte
 returns-4 c =
     c .good-row .ensures
-    ∙ place-row _ _ _ _ _ _ (sym (c .before .before .before .before .before .dword-at .ensures) ∙ c .before .before .before .before .if1 .left) (omega arith)
+    ∙ place-row _ _ _ _ _ _ (sym (c .before .before .before .before .before .dword-at .ensures)
+    ∙ c .before .before .before .before .if1 .left) (omega arith)
 
 pub good-place-spec : {M : Type 1} → statement M
 good-place-spec =

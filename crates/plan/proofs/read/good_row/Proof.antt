@@ -31,7 +31,8 @@ cast-code c = omega (arith, c .shared-slice-known2 .given (c .before .before .lo
 
 returns-2 : tie.Need-returns-2 Inv-loop μ-loop
 unfolding byte
-returns-2 c = let l = c .before .before .before .loop in sym (l .inv .0 ∙ good-low _ _ _ (l .at) (l .low) (l .left) (omega arith) (c .if2 .taken))
+returns-2 c = let l = c .before .before .before .loop in sym
+    (l .inv .0 ∙ good-low _ _ _ (l .at) (l .low) (l .left) (omega arith) (c .if2 .taken))
 
 good-move-requires : tie.Need-good-move-requires Inv-loop μ-loop
 good-move-requires c κs = omega arith

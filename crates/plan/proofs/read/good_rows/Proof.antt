@@ -66,7 +66,11 @@ loop-less c = omega arith
 
 loop-again : tie.Need-loop-again Inv-loop μ-loop
 unfolding byte
-loop-again c = let l = c .before .before .before .before .loop in (l .inv .0 ∙ rows-more _ _ _ _ _ (l .p) (l .i) (omega arith) (placed (c .before)), omega arith)
+loop-again c = let l = c .before .before .before .before .loop in (
+  l .inv .0
+      ∙ rows-more _ _ _ _ _ (l .p) (l .i) (omega arith) (placed (c .before)),
+  omega arith,
+)
 
 returns-2 : tie.Need-returns-2 Inv-loop μ-loop
 returns-2 c = let l = c .before .loop in sym (l .inv .0 ∙ rows-end _ _ _ _ _ (l .p) (l .i) (omega arith))

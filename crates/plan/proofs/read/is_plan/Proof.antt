@@ -57,14 +57,16 @@ unfolding byte
 returns-2 c =
     c .good-rows .ensures
     ∙ plan-rows _ (c .before .before .before .before .before .before .before .before .if1 .left) _ _ _ _
-    (c .before .before .before .before .before .before .before .dword-at .ensures) (c .before .before .before .before .before .before .word-at .ensures) refl refl
+    (c .before .before .before .before .before .before .before .dword-at .ensures)
+    (c .before .before .before .before .before .before .word-at .ensures) refl refl
     (sym (c .before .before .before .figures-in-range .ensures) ∙ c .before .before .if2 .taken) (c .before .if3 .taken)
 
 returns-3 : tie.Need-returns-3
 unfolding byte
 returns-3 c =
     plan-index _ (c .before .before .before .before .before .before .before .if1 .left) _ _ _ _
-    (c .before .before .before .before .before .before .dword-at .ensures) (c .before .before .before .before .before .word-at .ensures) refl refl
+    (c .before .before .before .before .before .before .dword-at .ensures) (c .before .before .before .before .before .word-at .ensures)
+    refl refl
     (sym (c .before .before .figures-in-range .ensures) ∙ c .before .if2 .taken) (c .if3 .left)
 
 returns-4 : tie.Need-returns-4

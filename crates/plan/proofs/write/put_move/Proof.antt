@@ -29,7 +29,8 @@ same-length c = search needs
 
 returns : tie.Need-returns
 unfolding moveBytes le16
-returns c = front-then _ _ _ _ _ _ (c .before .before .before .before .before .before .put-byte .ensures) refl (omega arith) (c .before .before .put-word .ensures)
+returns c = front-then _ _ _ _ _ _ (c .before .before .before .before .before .before .put-byte .ensures) refl (omega arith)
+    (c .before .before .put-word .ensures)
 
 pub put-move-spec : {M : Type 1} → statement M
 put-move-spec =

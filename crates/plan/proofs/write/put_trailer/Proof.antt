@@ -54,7 +54,8 @@ returns : tie.Need-returns
 unfolding le32 le16
 returns c =
     let first = c .before .before .before .before .before .before .before .before .before .before .before .before .before .before .put-dword .ensures in
-    let second = front-then 4 _ _ _ _ _ first refl (omega arith) (c .before .before .before .before .before .before .before .before .before .before .put-word .ensures) in
+    let second = front-then 4 _ _ _ _ _ first refl (omega arith)
+    (c .before .before .before .before .before .before .before .before .before .before .put-word .ensures) in
     let third = front-then 6 _ _ _ _ _ second refl (omega arith) (c .before .before .before .before .before .before .put-byte .ensures) in
     front-then 7 _ _ _ _ _ third refl (omega arith) (c .before .before .put-byte2 .ensures)
 
