@@ -256,7 +256,7 @@ part-{n} {names}=
         moved = next(n for n in range(len(order) + 1) if order[:n] + [x for x in st.labels if x not in order[:n]] == order)
         text = st.front(*order[:moved])
         held = [(self.tyn(k), k, st.cells[k]) for k in range(len(self.locals))]
-        freed = listed(f'bare {t} l{k}' if c is None else f'held {t} l{k} ({c.val()})' for t, k, c in held)
+        freed = listed(f'bare {t} l{k}' if c is None else f'valued {t} l{k} ({c.val()})' for t, k, c in held)
         st.labels = others
         return text + f'released ! ({listed(self.entry(st, x) for x in others)}) ({freed}) $ '
 

@@ -1,11 +1,7 @@
 // Answers the cases that stand on standard input, each behind its length. tests/reference makes them and says what is to be printed for
 // each; its README has the form of every kind.
 mod clients;
-mod lent;
-mod pairs;
-mod runs;
 mod sheets;
-mod standstills;
 mod steps;
 
 // What the cases are about.
@@ -20,7 +16,7 @@ pub enum Kind {
 fn answer(kind: Kind, case: &[u8]) {
     match kind {
         Kind::Sheets => sheets::answer(case),
-        Kind::Pairs => pairs::answer(case),
+        Kind::Pairs => lent::answer(case),
         Kind::Steps => steps::answer(case),
         Kind::Clients => clients::answer(case),
         Kind::Runs => runs::answer(case),

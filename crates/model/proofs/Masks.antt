@@ -46,9 +46,9 @@ any-not-all p (j ∷ l) = rw (any-not-all p l) (go (p j) (all (λ j. not (p j)) 
 
 -- ---- the low bits of two masks
 
-unfoldable pub agree : Bool → Bool → Bool
-agree true t = t
-agree false t = not t
+unfoldable pub sameBit : Bool → Bool → Bool
+sameBit true t = t
+sameBit false t = not t
 
 pub has-zero : (a : ℕ) → has a 0 ≡ eqb (a % 2) 1
 unfolding has
@@ -66,8 +66,8 @@ low-step : (n a : ℕ) → a % 2 ^ suc n ≡ (a / 2 % 2 ^ n) * 2 + a % 2
 low-step n a = ap (λ (m : ℕ). a % m) (pow-suc 2 n) ∙ mod-mul a (pow-pos n) (omega arith)
 
 -- two numbers by their last bit and the rest
-digits-agree : (u v r s : ℕ) → r < 2 → s < 2 → eqb (u * 2 + r) (v * 2 + s) ≡ (agree (eqb r 1) (eqb s 1) && eqb u v)
-unfolding agree
+digits-agree : (u v r s : ℕ) → r < 2 → s < 2 → eqb (u * 2 + r) (v * 2 + s) ≡ (sameBit (eqb r 1) (eqb s 1) && eqb u v)
+unfolding sameBit
 digits-agree u v zero zero h l = go (eqb u v) refl
   where
     go : (t : Bool) → eqb u v ≡ t → eqb (u * 2 + 0) (v * 2 + 0) ≡ t
@@ -85,42 +85,42 @@ digits-agree u v (suc zero) (suc (suc s)) h l = absurd (omega arith)
 digits-agree u v (suc (suc r)) s h l = absurd (omega arith)
 
 -- the low n bits make the same number when each of them agrees
-pub low-bits-agree : (n a b : ℕ) → eqb (a % 2 ^ n) (b % 2 ^ n) ≡ all (λ j. agree (has a j) (has b j)) (upto 0 n)
+pub low-bits-agree : (n a b : ℕ) → eqb (a % 2 ^ n) (b % 2 ^ n) ≡ all (λ j. sameBit (has a j) (has b j)) (upto 0 n)
 unfolding all upto
 low-bits-agree zero a b = eq-eqb (a % 1) (b % 1) (omega arith)
 low-bits-agree (suc n) a b =
     rw (low-step n a, low-step n b)
     (digits-agree (a / 2 % 2 ^ n) (b / 2 % 2 ^ n) (a % 2) (b % 2) (omega arith) (omega arith)
     ∙ rw (low-bits-agree n (a / 2) (b / 2), ← has-zero a, ← has-zero b)
-    (ap (λ (t : Bool). agree (has a 0) (has b 0) && t)
-    (all-same (λ j. agree (has (a / 2) j) (has (b / 2) j)) (λ j. agree (has a (suc j)) (has b (suc j))) 0 n
+    (ap (λ (t : Bool). sameBit (has a 0) (has b 0) && t)
+    (all-same (λ j. sameBit (has (a / 2) j) (has (b / 2) j)) (λ j. sameBit (has a (suc j)) (has b (suc j))) 0 n
     (λ j h. rw (has-suc a j, has-suc b j))
-    ∙ sym (all-later (λ j. agree (has a j) (has b j)) 0 n))))
+    ∙ sym (all-later (λ j. sameBit (has a j) (has b j)) 0 n))))
 
 -- the low bits of a lie within those of b
 pub low-bits-within : (n a b : ℕ) → eqb (bitAnd a b % 2 ^ n) (a % 2 ^ n) ≡ all (λ j. cond (has a j) (has b j) true) (upto 0 n)
-unfolding agree
+unfolding sameBit
 low-bits-within n a b =
     low-bits-agree n (bitAnd a b) a
-    ∙ all-same (λ j. agree (has (bitAnd a b) j) (has a j)) (λ j. cond (has a j) (has b j) true) 0 n
+    ∙ all-same (λ j. sameBit (has (bitAnd a b) j) (has a j)) (λ j. cond (has a j) (has b j) true) 0 n
     (λ j h. rw (has-and a b j) (go (has a j) (has b j)))
   where
-    go : (t u : Bool) → agree (t && u) t ≡ cond t u true
+    go : (t u : Bool) → sameBit (t && u) t ≡ cond t u true
     go true true = refl
     go true false = refl
     go false u = refl
 
 -- a and b have one of the low bits in common
 pub low-bits-meet : (n a b : ℕ) → not (eqb (bitAnd a b % 2 ^ n) 0) ≡ any (λ j. has a j && has b j) (upto 0 n)
-unfolding agree
+unfolding sameBit
 low-bits-meet n a b =
     ap not
     (ap (λ (m : ℕ). eqb (bitAnd a b % 2 ^ n) m) (sym (zero-mod (2 ^ n)))
     ∙ low-bits-agree n (bitAnd a b) 0
-    ∙ all-same (λ j. agree (has (bitAnd a b) j) (has 0 j)) (λ j. not (has a j && has b j)) 0 n
+    ∙ all-same (λ j. sameBit (has (bitAnd a b) j) (has 0 j)) (λ j. not (has a j && has b j)) 0 n
     (λ j h. rw (has-and a b j, has-none j) (go (has a j && has b j))))
     ∙ sym (any-not-all (λ j. has a j && has b j) (upto 0 n))
   where
-    go : (t : Bool) → agree t false ≡ not t
+    go : (t : Bool) → sameBit t false ≡ not t
     go true = refl
     go false = refl

@@ -4,7 +4,7 @@
 -- Assumes nothing.
 use Rattle.walks.proofs.Logic.{_≡_, refl, _∙_, ℕ, _<_, _^_, List, [], _∷_, length, URA, fullShare, Ty, named, erased, imm, mut, w8, tyInt, tyRef, Val, vint, vptr, SProp, ent, emp, via, fst∗, Lft, Share, GName, ftrue, flft, Memory, Routine, Heap, Env, WpFn, Tables, Atoms, Fun, tablesOf, givenOf, tables, Given, Sq, runs, atRet, ‵, _⊛_, ⋆, _$_, _∵_, !, qed, by, move, keep, split, join, fsplit, fjoin, suffices, done, look, init, stop, hop, fld, from, load, addr, and-then, no-more, land, assigns, returns-within, enter, alloc1, alloc0, params1, pass1, pass0, agg, whole, sub, look-in, fmOf, WpFn-mono, owns, Is, pointee, RefT, sliceTy, sliceVal, MutSlice, ShrSlice, Room, slice-vals, mut-slice-tells, shr-slice-tells, uint-makes, uint-vals, uint-tells, u8, owned, nothing, plain, onEntry, Meets, tripleOf, Triple, entered, cited, says, Stays, stay-none, stay-slice, stay-none-slice, walkOf, goes-none, goes-slice, goes-none-slice, Walks, ends-at, walked, walk-meets, yes}
 use Rattle.walks.proofs.Branches.{empty, full}
-use Rattle.walks.proofs.Freed.{held, released}
+use Rattle.walks.proofs.Freed.{valued, released}
 use Rattle.walks.proofs.Lent.{lentAt, lend, regain, share}
 use denote.Struct.Laws as LL
 use Rattle.adapter.proofs.adapter_connect as this
@@ -99,7 +99,7 @@ module _ {M : Type 1} (𝓤 : URA M) (H : Heap 𝓤) (A : Atoms 𝓤) (W : Given
           calls-connect 𝓤 H A W mem run k κ-old q-old (lentAt b-old o-old γ-old old) s-old κ-new q-new (lentAt b-new o-new γ-new new) s-new (ν-2-work ∷ []) fullShare (lentAt b-work o-work δ-2-work work) s-work (ν-2-plan ∷ []) fullShare (lentAt b-plan o-plan δ-2-plan plan) s-plan (fmOf 𝓤 H (W .laws) 𝓣) known-connect fits-k
           (and-then ! (load ! (from ! (stop !)) (look ! 21 refl)) (and-then ! (load ! (from ! (stop !)) (look ! 19 refl)) (and-then ! (load ! (from ! (stop !)) (look ! 17 refl)) (and-then ! (load ! (from ! (stop !)) (look ! 9 refl)) (and-then ! (load ! (from ! (stop !)) (look ! 5 refl)) (no-more !)))))) (λ answer cleared written is-answer same-cleared same-written connected.
           move ! (2 ∷ 7 ∷ 3 ∷ []) $ regain ! tt Record-row.the-row (named 2) κ-work q-work γ-work b-work o-work (length work) work refl ν-2-work δ-2-work cleared room-work same-cleared (move ! (4 ∷ 6 ∷ 5 ∷ []) $ regain ! tt u8 (named 3) κ-plan q-plan γ-plan b-plan o-plan (length plan) plan refl ν-2-plan δ-2-plan written room-plan same-written (move ! (7 ∷ 4 ∷ 6 ∷ 5 ∷ 2 ∷ 3 ∷ 0 ∷ 1 ∷ []) $ land ! (from ! (stop !)) (init ! 26 refl (LL.lawful Answer-row.the-type Answer-laws.the-laws 𝓤 H A W .typed answer _ is-answer .0)) $
-          returns-within ! Ends refl (look ! 26 refl) $ released ! (‵ (ShrSlice (named 0) κ-old u8 .own (lentAt b-old o-old γ-old old) (s-old ∷ [])) ∷ ‵ (flft κ-old q-old) ∷ ‵ (ShrSlice (named 1) κ-new u8 .own (lentAt b-new o-new γ-new new) (s-new ∷ [])) ∷ ‵ (flft κ-new q-new) ∷ ‵ (MutSlice (named 2) κ-work Record-row.the-row .own (lentAt b-work o-work γ-work cleared) (s-work ∷ [])) ∷ ‵ (flft κ-work q-work) ∷ ‵ (MutSlice (named 3) κ-plan u8 .own (lentAt b-plan o-plan γ-plan written) (s-plan ∷ [])) ∷ ‵ (flft κ-plan q-plan) ∷ []) (held Answer-laws.mir l0 (Answer-laws.lowered answer) ∷ held (tyInt w8) l1 (vint w8 k) ∷ held τ0 l2 (s-old) ∷ held τ1 l3 (s-new) ∷ held τ2 l4 (s-work) ∷ held τ3 l5 (s-plan) ∷ held τ4 l6 (vptr b-work o-work) ∷ held τ5 l7 (s-work) ∷ held τ6 l8 (vptr b-plan o-plan) ∷ held τ7 l9 (s-plan) ∷ []) $ by ! (exits answer cleared written is-answer (same-cleared ∙ refl) (same-written ∙ refl) connected))))))))
+          returns-within ! Ends refl (look ! 26 refl) $ released ! (‵ (ShrSlice (named 0) κ-old u8 .own (lentAt b-old o-old γ-old old) (s-old ∷ [])) ∷ ‵ (flft κ-old q-old) ∷ ‵ (ShrSlice (named 1) κ-new u8 .own (lentAt b-new o-new γ-new new) (s-new ∷ [])) ∷ ‵ (flft κ-new q-new) ∷ ‵ (MutSlice (named 2) κ-work Record-row.the-row .own (lentAt b-work o-work γ-work cleared) (s-work ∷ [])) ∷ ‵ (flft κ-work q-work) ∷ ‵ (MutSlice (named 3) κ-plan u8 .own (lentAt b-plan o-plan γ-plan written) (s-plan ∷ [])) ∷ ‵ (flft κ-plan q-plan) ∷ []) (valued Answer-laws.mir l0 (Answer-laws.lowered answer) ∷ valued (tyInt w8) l1 (vint w8 k) ∷ valued τ0 l2 (s-old) ∷ valued τ1 l3 (s-new) ∷ valued τ2 l4 (s-work) ∷ valued τ3 l5 (s-plan) ∷ valued τ4 l6 (vptr b-work o-work) ∷ valued τ5 l7 (s-work) ∷ valued τ6 l8 (vptr b-plan o-plan) ∷ valued τ7 l9 (s-plan) ∷ []) $ by ! (exits answer cleared written is-answer (same-cleared ∙ refl) (same-written ∙ refl) connected))))))))
 
     walk : ent 𝓤 (onEntry 𝓤 H A this.signature (κ-old, (κ-new, (κ-work, (κ-plan, tt)))) (q-old, (q-new, (q-work, (q-plan, tt)))) args machine) (WpFn 𝓤 H (𝓣 .C) (𝓣 .Λ) this-code.function (vint w8 k ∷ s-old ∷ s-new ∷ s-work ∷ s-plan ∷ []) Ends)
     walk =

@@ -4,7 +4,7 @@
 -- Assumes nothing.
 use Rattle.walks.proofs.Logic.{_≡_, refl, _∙_, not, ℕ, _<_, _^_, List, [], _∷_, eqb, length, URA, fullShare, Ty, named, erased, imm, mut, w8, tyInt, tyBool, tyUnit, tyRef, Val, vunit, vint, vbool, vptr, SProp, ent, emp, via, fst∗, Lft, Share, GName, ftrue, flft, Memory, Routine, Heap, Env, WpFn, Tables, Atoms, Fun, tablesOf, givenOf, tables, Given, Sq, runs, atRet, ‵, _⊛_, ⋆, _$_, _∵_, !, qed, by, move, keep, split, join, fsplit, fjoin, suffices, done, look, init, stop, hop, fld, from, load, lit, addr, and-then, no-more, land, of-opd, bin, assigns, returns-within, enter, alloc1, alloc0, params1, pass1, pass0, agg, whole, sub, look-in, fmOf, WpFn-mono, owns, Is, pointee, RefT, sliceTy, sliceVal, MutSlice, ShrSlice, Room, slice-vals, mut-slice-tells, shr-slice-tells, uint-makes, uint-vals, uint-tells, u8, owned, nothing, plain, onEntry, Meets, tripleOf, Triple, entered, cited, says, Stays, stay-none, stay-slice, stay-none-slice, walkOf, goes-none, goes-slice, goes-none-slice, Walks, ends-at, walked, walk-meets, yes}
 use Rattle.walks.proofs.Branches.{empty, full, unequal, not-unequal, guards}
-use Rattle.walks.proofs.Freed.{bare, held, released}
+use Rattle.walks.proofs.Freed.{bare, valued, released}
 use Rattle.walks.proofs.Lent.{lentAt, lend, regain, share}
 use denote.Struct.Laws as LL
 use Rattle.connect.proofs.connect as this
@@ -107,7 +107,7 @@ module _ {M : Type 1} (𝓤 : URA M) (H : Heap 𝓤) (A : Atoms 𝓤) (W : Given
           assigns ! (bin ! (load ! (from ! (fld ! refl (stop !))) (look-in ! 26 (sub ! 0 refl (whole !)))) (lit ! tt) tt) (from ! (stop !)) (init ! 22 refl (tt, tt)) $
           guards ! (load ! (from ! (stop !)) (look ! 22 refl)) (unequal (begin .number) 0) (not-unequal (begin .number) 0)
           (λ bad. assigns ! (of-opd ! (load ! (from ! (stop !)) (look ! 26 refl))) (from ! (stop !)) (init ! 38 refl (LL.lawful Answer-row.the-type Answer-laws.the-laws 𝓤 H A W .typed begin _ is-begin .0)) $
-          returns-within ! Ends refl (look ! 38 refl) $ released ! (‵ (ShrSlice (named 0) κ-old u8 .own (lentAt b-old o-old γ-old old) (s-old ∷ [])) ∷ ‵ (flft κ-old q-old) ∷ ‵ (ShrSlice (named 1) κ-new u8 .own (lentAt b-new o-new γ-new new) (s-new ∷ [])) ∷ ‵ (flft κ-new q-new) ∷ ‵ (MutSlice (named 2) κ-work Record-row.the-row .own (lentAt b-work o-work γ-work work) (s-work ∷ [])) ∷ ‵ (flft κ-work q-work) ∷ ‵ (MutSlice (named 3) κ-plan u8 .own (lentAt b-plan o-plan γ-plan plan) (s-plan ∷ [])) ∷ ‵ (flft κ-plan q-plan) ∷ []) (held Answer-laws.mir l0 (Answer-laws.lowered begin) ∷ held (tyInt w8) l1 (vint w8 k) ∷ held τ0 l2 (s-old) ∷ held τ1 l3 (s-new) ∷ held τ2 l4 (s-work) ∷ held τ3 l5 (s-plan) ∷ held Answer-laws.mir l6 (Answer-laws.lowered begin) ∷ bare Answer-laws.mir l7 ∷ held tyBool l8 (vbool (not (eqb (begin .number) 0))) ∷ bare τ4 l9 ∷ bare τ5 l10 ∷ bare τ6 l11 ∷ bare τ7 l12 ∷ bare tyUnit l13 ∷ bare τ4 l14 ∷ bare τ5 l15 ∷ []) $ by ! (exits begin work plan is-begin refl refl (connect-refused k old new work plan begin-is bad)))
+          returns-within ! Ends refl (look ! 38 refl) $ released ! (‵ (ShrSlice (named 0) κ-old u8 .own (lentAt b-old o-old γ-old old) (s-old ∷ [])) ∷ ‵ (flft κ-old q-old) ∷ ‵ (ShrSlice (named 1) κ-new u8 .own (lentAt b-new o-new γ-new new) (s-new ∷ [])) ∷ ‵ (flft κ-new q-new) ∷ ‵ (MutSlice (named 2) κ-work Record-row.the-row .own (lentAt b-work o-work γ-work work) (s-work ∷ [])) ∷ ‵ (flft κ-work q-work) ∷ ‵ (MutSlice (named 3) κ-plan u8 .own (lentAt b-plan o-plan γ-plan plan) (s-plan ∷ [])) ∷ ‵ (flft κ-plan q-plan) ∷ []) (valued Answer-laws.mir l0 (Answer-laws.lowered begin) ∷ valued (tyInt w8) l1 (vint w8 k) ∷ valued τ0 l2 (s-old) ∷ valued τ1 l3 (s-new) ∷ valued τ2 l4 (s-work) ∷ valued τ3 l5 (s-plan) ∷ valued Answer-laws.mir l6 (Answer-laws.lowered begin) ∷ bare Answer-laws.mir l7 ∷ valued tyBool l8 (vbool (not (eqb (begin .number) 0))) ∷ bare τ4 l9 ∷ bare τ5 l10 ∷ bare τ6 l11 ∷ bare τ7 l12 ∷ bare tyUnit l13 ∷ bare τ4 l14 ∷ bare τ5 l15 ∷ []) $ by ! (exits begin work plan is-begin refl refl (connect-refused k old new work plan begin-is bad)))
           (λ good. assigns ! (addr ! (from ! (fld ! refl (hop ! (look-in ! 30 (sub ! 0 refl (whole !))) (stop !))))) (from ! (stop !)) (init ! 20 refl (tt, tt)) $
           assigns ! (agg ! (and-then ! (load ! (from ! (stop !)) (look ! 20 refl)) (and-then ! (load ! (from ! (fld ! refl (stop !))) (look-in ! 30 (sub ! 1 refl (whole !)))) (no-more !)))) (from ! (stop !)) (init ! 18 refl (tt, (tt, (record { fits = room-work .0 }, tt)))) $
           assigns ! (addr ! (from ! (fld ! refl (hop ! (look-in ! 28 (sub ! 0 refl (whole !))) (stop !))))) (from ! (stop !)) (init ! 16 refl (tt, tt)) $
@@ -123,7 +123,7 @@ module _ {M : Type 1} (𝓤 : URA M) (H : Heap 𝓤) (A : Atoms 𝓤) (W : Given
           (and-then ! (load ! (from ! (stop !)) (look ! 8 refl)) (no-more !)) (λ cleared same-cleared cleared-is.
           move ! (0 ∷ 2 ∷ 1 ∷ []) $ regain ! tt Record-row.the-row (named 2) κ-work q-work γ-work b-work o-work (length work) between (same-between ∙ refl) ν-5-work δ-5-work cleared room-work same-cleared (move ! (2 ∷ 3 ∷ 4 ∷ 5 ∷ 0 ∷ 1 ∷ 6 ∷ 7 ∷ []) $ land ! (from ! (stop !)) (init ! 12 refl (tt, tt)) $
           assigns ! (of-opd ! (load ! (from ! (stop !)) (look ! 24 refl))) (from ! (stop !)) (init ! 38 refl (LL.lawful Answer-row.the-type Answer-laws.the-laws 𝓤 H A W .typed answer _ is-answer .0)) $
-          returns-within ! Ends refl (look ! 38 refl) $ released ! (‵ (ShrSlice (named 0) κ-old u8 .own (lentAt b-old o-old γ-old old) (s-old ∷ [])) ∷ ‵ (flft κ-old q-old) ∷ ‵ (ShrSlice (named 1) κ-new u8 .own (lentAt b-new o-new γ-new new) (s-new ∷ [])) ∷ ‵ (flft κ-new q-new) ∷ ‵ (MutSlice (named 2) κ-work Record-row.the-row .own (lentAt b-work o-work γ-work cleared) (s-work ∷ [])) ∷ ‵ (flft κ-work q-work) ∷ ‵ (MutSlice (named 3) κ-plan u8 .own (lentAt b-plan o-plan γ-plan written) (s-plan ∷ [])) ∷ ‵ (flft κ-plan q-plan) ∷ []) (held Answer-laws.mir l0 (Answer-laws.lowered answer) ∷ held (tyInt w8) l1 (vint w8 k) ∷ held τ0 l2 (s-old) ∷ held τ1 l3 (s-new) ∷ held τ2 l4 (s-work) ∷ held τ3 l5 (s-plan) ∷ held Answer-laws.mir l6 (Answer-laws.lowered begin) ∷ held Answer-laws.mir l7 (Answer-laws.lowered answer) ∷ held tyBool l8 (vbool (not (eqb (begin .number) 0))) ∷ held τ4 l9 (vptr b-work o-work) ∷ held τ5 l10 (s-work) ∷ held τ6 l11 (vptr b-plan o-plan) ∷ held τ7 l12 (s-plan) ∷ held tyUnit l13 (vunit) ∷ held τ4 l14 (vptr b-work o-work) ∷ held τ5 l15 (s-work) ∷ []) $ by ! (exits answer cleared written is-answer (same-cleared ∙ (same-between ∙ refl)) (same-written ∙ refl) (connect-done k old new work plan between begin-is good is-written same-between cleared-is))))))))))))))))
+          returns-within ! Ends refl (look ! 38 refl) $ released ! (‵ (ShrSlice (named 0) κ-old u8 .own (lentAt b-old o-old γ-old old) (s-old ∷ [])) ∷ ‵ (flft κ-old q-old) ∷ ‵ (ShrSlice (named 1) κ-new u8 .own (lentAt b-new o-new γ-new new) (s-new ∷ [])) ∷ ‵ (flft κ-new q-new) ∷ ‵ (MutSlice (named 2) κ-work Record-row.the-row .own (lentAt b-work o-work γ-work cleared) (s-work ∷ [])) ∷ ‵ (flft κ-work q-work) ∷ ‵ (MutSlice (named 3) κ-plan u8 .own (lentAt b-plan o-plan γ-plan written) (s-plan ∷ [])) ∷ ‵ (flft κ-plan q-plan) ∷ []) (valued Answer-laws.mir l0 (Answer-laws.lowered answer) ∷ valued (tyInt w8) l1 (vint w8 k) ∷ valued τ0 l2 (s-old) ∷ valued τ1 l3 (s-new) ∷ valued τ2 l4 (s-work) ∷ valued τ3 l5 (s-plan) ∷ valued Answer-laws.mir l6 (Answer-laws.lowered begin) ∷ valued Answer-laws.mir l7 (Answer-laws.lowered answer) ∷ valued tyBool l8 (vbool (not (eqb (begin .number) 0))) ∷ valued τ4 l9 (vptr b-work o-work) ∷ valued τ5 l10 (s-work) ∷ valued τ6 l11 (vptr b-plan o-plan) ∷ valued τ7 l12 (s-plan) ∷ valued tyUnit l13 (vunit) ∷ valued τ4 l14 (vptr b-work o-work) ∷ valued τ5 l15 (s-work) ∷ []) $ by ! (exits answer cleared written is-answer (same-cleared ∙ (same-between ∙ refl)) (same-written ∙ refl) (connect-done k old new work plan between begin-is good is-written same-between cleared-is))))))))))))))))
 
     walk : ent 𝓤 (onEntry 𝓤 H A this.signature (κ-old, (κ-new, (κ-work, (κ-plan, tt)))) (q-old, (q-new, (q-work, (q-plan, tt)))) args machine) (WpFn 𝓤 H (𝓣 .C) (𝓣 .Λ) this-code.function (vint w8 k ∷ s-old ∷ s-new ∷ s-work ∷ s-plan ∷ []) Ends)
     walk =

@@ -4,7 +4,7 @@
 -- Assumes nothing.
 use Rattle.walks.proofs.Logic.{_≡_, refl, _∙_, ℕ, _<_, _≤_, _^_, List, [], _∷_, lit<, eqb, length, URA, fullShare, Ty, named, erased, imm, mut, w8, w16, w64, tyInt, tyBool, tyRef, Val, vint, vbool, vptr, SProp, ent, Lft, Share, GName, ftrue, flft, Memory, Routine, Heap, Env, WpFn, Tables, Atoms, Fun, tablesOf, givenOf, tables, Given, Sq, runs, atRet, ‵, _⊛_, ⋆, _$_, _∵_, !, qed, by, move, keep, split, join, fsplit, fjoin, suffices, done, look, init, store, forget, stop, hop, fld, from, load, lit, addr, and-then, no-more, land, of-opd, bin, assigns, returns-within, enter, alloc1, alloc0, params1, pass1, pass0, agg, whole, sub, look-in, fmOf, WpFn-mono, owns, Is, pointee, RefT, sliceTy, sliceVal, MutSlice, ShrSlice, Room, slice-vals, mut-slice-tells, shr-slice-tells, uint-makes, uint-vals, uint-tells, u8, owned, nothing, plain, onEntry, Meets, tripleOf, Triple, entered, cited, says, Stays, stay-none, stay-slice, stay-none-slice, walkOf, goes-none, goes-slice, goes-none-slice, Walks, ends-at, walked, walk-meets, yes}
 use Rattle.walks.proofs.Branches.{empty, full, equal, unequal, guards}
-use Rattle.walks.proofs.Freed.{bare, held, released}
+use Rattle.walks.proofs.Freed.{bare, valued, released}
 use Rattle.walks.proofs.Lent.{lentAt, lend, regain, share}
 use Rattle.walks.proofs.Clauses.{needs-all}
 use denote.Struct.Laws as LL
@@ -111,7 +111,7 @@ module _ {M : Type 1} (𝓤 : URA M) (H : Heap 𝓤) (A : Atoms 𝓤) (W : Given
 
       part-8 : (limit : ℕ) (fits-limit : limit < 2 ^ 64) (limit-is : limit ≡ limitOf (length work)) (count : ℕ) (found : List Record) (fits-count : count < 2 ^ 16) (same-found : length found ≡ length work) (explored : Explored (old) (new) k limit count (work) (found)) (some-count : count ≡ 0 → ⊥) (total : ℕ) (fits-total : total < 2 ^ 64) (total-is : total ≡ count) (answer : Answer) (related : List Record) (written : List ℕ) (is-answer : Is Answer-row.the-row answer (Answer-laws.lowered answer ∷ [])) (same-related : length related ≡ length found) (same-written : length written ≡ length plan) (is-written : Writes (relatedFrom k (old) (new) total (found) (length (plan))) answer (plan) (written)) → Sq W (‵ (ShrSlice (named 0) κ-old u8 .own (lentAt b-old o-old γ-old old) (s-old ∷ [])) ∷ ‵ (flft κ-old q-old) ∷ ‵ (ShrSlice (named 1) κ-new u8 .own (lentAt b-new o-new γ-new new) (s-new ∷ [])) ∷ ‵ (flft κ-new q-new) ∷ ‵ (MutSlice (named 2) κ-work Record-row.the-row .own (lentAt b-work o-work γ-work related) (s-work ∷ [])) ∷ ‵ (flft κ-work q-work) ∷ ‵ (MutSlice (named 3) κ-plan u8 .own (lentAt b-plan o-plan γ-plan written) (s-plan ∷ [])) ∷ ‵ (flft κ-plan q-plan) ∷ empty τ7 l15 (empty τ6 l14 (empty τ5 l13 (empty τ4 l12 (empty tyBool l11 (empty τ5 l10 (empty τ4 l9 (empty (tyInt w64) l8 (empty (tyInt w16) l7 (empty (tyInt w64) l6 (empty τ3 l5 (empty τ2 l4 (empty τ1 l3 (empty τ0 l2 (empty (tyInt w8) l1 (full Answer-laws.mir l0 (Answer-laws.lowered answer) ([]))))))))))))))))) (runs (𝓣 .C) (𝓣 .Λ) En this-mir.t-14 (atRet En Ends))
       part-8 limit fits-limit limit-is count found fits-count same-found explored some-count total fits-total total-is answer related written is-answer same-related same-written is-written =
-          returns-within ! Ends refl (look ! 38 refl) $ released ! (‵ (ShrSlice (named 0) κ-old u8 .own (lentAt b-old o-old γ-old old) (s-old ∷ [])) ∷ ‵ (flft κ-old q-old) ∷ ‵ (ShrSlice (named 1) κ-new u8 .own (lentAt b-new o-new γ-new new) (s-new ∷ [])) ∷ ‵ (flft κ-new q-new) ∷ ‵ (MutSlice (named 2) κ-work Record-row.the-row .own (lentAt b-work o-work γ-work related) (s-work ∷ [])) ∷ ‵ (flft κ-work q-work) ∷ ‵ (MutSlice (named 3) κ-plan u8 .own (lentAt b-plan o-plan γ-plan written) (s-plan ∷ [])) ∷ ‵ (flft κ-plan q-plan) ∷ []) (held Answer-laws.mir l0 (Answer-laws.lowered answer) ∷ bare (tyInt w8) l1 ∷ bare τ0 l2 ∷ bare τ1 l3 ∷ bare τ2 l4 ∷ bare τ3 l5 ∷ bare (tyInt w64) l6 ∷ bare (tyInt w16) l7 ∷ bare (tyInt w64) l8 ∷ bare τ4 l9 ∷ bare τ5 l10 ∷ bare tyBool l11 ∷ bare τ4 l12 ∷ bare τ5 l13 ∷ bare τ6 l14 ∷ bare τ7 l15 ∷ []) $ by ! (exits answer related written is-answer (same-related ∙ (same-found ∙ refl)) (same-written ∙ refl) (writes-whole k old new limit count work found explored old-sheet new-sheet rank some-count limit-is total total-is answer plan written is-written))
+          returns-within ! Ends refl (look ! 38 refl) $ released ! (‵ (ShrSlice (named 0) κ-old u8 .own (lentAt b-old o-old γ-old old) (s-old ∷ [])) ∷ ‵ (flft κ-old q-old) ∷ ‵ (ShrSlice (named 1) κ-new u8 .own (lentAt b-new o-new γ-new new) (s-new ∷ [])) ∷ ‵ (flft κ-new q-new) ∷ ‵ (MutSlice (named 2) κ-work Record-row.the-row .own (lentAt b-work o-work γ-work related) (s-work ∷ [])) ∷ ‵ (flft κ-work q-work) ∷ ‵ (MutSlice (named 3) κ-plan u8 .own (lentAt b-plan o-plan γ-plan written) (s-plan ∷ [])) ∷ ‵ (flft κ-plan q-plan) ∷ []) (valued Answer-laws.mir l0 (Answer-laws.lowered answer) ∷ bare (tyInt w8) l1 ∷ bare τ0 l2 ∷ bare τ1 l3 ∷ bare τ2 l4 ∷ bare τ3 l5 ∷ bare (tyInt w64) l6 ∷ bare (tyInt w16) l7 ∷ bare (tyInt w64) l8 ∷ bare τ4 l9 ∷ bare τ5 l10 ∷ bare tyBool l11 ∷ bare τ4 l12 ∷ bare τ5 l13 ∷ bare τ6 l14 ∷ bare τ7 l15 ∷ []) $ by ! (exits answer related written is-answer (same-related ∙ (same-found ∙ refl)) (same-written ∙ refl) (writes-whole k old new limit count work found explored old-sheet new-sheet rank some-count limit-is total total-is answer plan written is-written))
 
       part-1 : Sq W (‵ (ShrSlice (named 0) κ-old u8 .own (lentAt b-old o-old γ-old old) (s-old ∷ [])) ∷ ‵ (flft κ-old q-old) ∷ ‵ (ShrSlice (named 1) κ-new u8 .own (lentAt b-new o-new γ-new new) (s-new ∷ [])) ∷ ‵ (flft κ-new q-new) ∷ ‵ (MutSlice (named 2) κ-work Record-row.the-row .own (lentAt b-work o-work γ-work work) (s-work ∷ [])) ∷ ‵ (flft κ-work q-work) ∷ ‵ (MutSlice (named 3) κ-plan u8 .own (lentAt b-plan o-plan γ-plan plan) (s-plan ∷ [])) ∷ ‵ (flft κ-plan q-plan) ∷ empty τ7 l15 (empty τ6 l14 (empty τ5 l13 (empty τ4 l12 (empty tyBool l11 (empty τ5 l10 (empty τ4 l9 (empty (tyInt w64) l8 (empty (tyInt w16) l7 (empty (tyInt w64) l6 (full τ3 l5 (s-plan) (full τ2 l4 (s-work) (full τ1 l3 (s-new) (full τ0 l2 (s-old) (full (tyInt w8) l1 (vint w8 k) (empty Answer-laws.mir l0 ([]))))))))))))))))) (runs (𝓣 .C) (𝓣 .Λ) En this-mir.t-1 (atRet En Ends))
       part-1 =
@@ -130,7 +130,7 @@ module _ {M : Type 1} (𝓤 : URA M) (H : Heap 𝓤) (A : Atoms 𝓤) (W : Given
           (λ none. calls-refusal 𝓤 H A W mem run 11 0 0 (fmOf 𝓤 H (W .laws) 𝓣) known-refusal (lit< tt) (lit< tt) (lit< tt)
           (and-then ! (lit ! tt) (and-then ! (lit ! tt) (and-then ! (lit ! tt) (no-more !)))) (λ answer is-answer answer-is.
           land ! (from ! (stop !)) (init ! 38 refl (LL.lawful Answer-row.the-type Answer-laws.the-laws 𝓤 H A W .typed answer _ is-answer .0)) $
-          returns-within ! Ends refl (look ! 38 refl) $ released ! (‵ (ShrSlice (named 0) κ-old u8 .own (lentAt b-old o-old γ-old old) (s-old ∷ [])) ∷ ‵ (flft κ-old q-old) ∷ ‵ (ShrSlice (named 1) κ-new u8 .own (lentAt b-new o-new γ-new new) (s-new ∷ [])) ∷ ‵ (flft κ-new q-new) ∷ ‵ (MutSlice (named 2) κ-work Record-row.the-row .own (lentAt b-work o-work γ-work found) (s-work ∷ [])) ∷ ‵ (flft κ-work q-work) ∷ ‵ (MutSlice (named 3) κ-plan u8 .own (lentAt b-plan o-plan γ-plan plan) (s-plan ∷ [])) ∷ ‵ (flft κ-plan q-plan) ∷ []) (held Answer-laws.mir l0 (Answer-laws.lowered answer) ∷ held (tyInt w8) l1 (vint w8 k) ∷ held τ0 l2 (s-old) ∷ held τ1 l3 (s-new) ∷ held τ2 l4 (s-work) ∷ held τ3 l5 (s-plan) ∷ held (tyInt w64) l6 (vint w64 limit) ∷ held (tyInt w16) l7 (vint w16 count) ∷ held (tyInt w64) l8 (vint w64 (length work)) ∷ held τ4 l9 (vptr b-work o-work) ∷ held τ5 l10 (s-work) ∷ held tyBool l11 (vbool (eqb count 0)) ∷ bare τ4 l12 ∷ bare τ5 l13 ∷ bare τ6 l14 ∷ bare τ7 l15 ∷ []) $ by ! (exits answer found plan is-answer (same-found ∙ refl) refl (writes-over k old new limit count work found explored none limit-is answer plan answer-is))))
+          returns-within ! Ends refl (look ! 38 refl) $ released ! (‵ (ShrSlice (named 0) κ-old u8 .own (lentAt b-old o-old γ-old old) (s-old ∷ [])) ∷ ‵ (flft κ-old q-old) ∷ ‵ (ShrSlice (named 1) κ-new u8 .own (lentAt b-new o-new γ-new new) (s-new ∷ [])) ∷ ‵ (flft κ-new q-new) ∷ ‵ (MutSlice (named 2) κ-work Record-row.the-row .own (lentAt b-work o-work γ-work found) (s-work ∷ [])) ∷ ‵ (flft κ-work q-work) ∷ ‵ (MutSlice (named 3) κ-plan u8 .own (lentAt b-plan o-plan γ-plan plan) (s-plan ∷ [])) ∷ ‵ (flft κ-plan q-plan) ∷ []) (valued Answer-laws.mir l0 (Answer-laws.lowered answer) ∷ valued (tyInt w8) l1 (vint w8 k) ∷ valued τ0 l2 (s-old) ∷ valued τ1 l3 (s-new) ∷ valued τ2 l4 (s-work) ∷ valued τ3 l5 (s-plan) ∷ valued (tyInt w64) l6 (vint w64 limit) ∷ valued (tyInt w16) l7 (vint w16 count) ∷ valued (tyInt w64) l8 (vint w64 (length work)) ∷ valued τ4 l9 (vptr b-work o-work) ∷ valued τ5 l10 (s-work) ∷ valued tyBool l11 (vbool (eqb count 0)) ∷ bare τ4 l12 ∷ bare τ5 l13 ∷ bare τ6 l14 ∷ bare τ7 l15 ∷ []) $ by ! (exits answer found plan is-answer (same-found ∙ refl) refl (writes-over k old new limit count work found explored none limit-is answer plan answer-is))))
           (λ some-count. assigns ! (addr ! (from ! (fld ! refl (hop ! (look-in ! 30 (sub ! 0 refl (whole !))) (stop !))))) (from ! (stop !)) (init ! 14 refl (tt, tt)) $
           assigns ! (agg ! (and-then ! (load ! (from ! (stop !)) (look ! 14 refl)) (and-then ! (load ! (from ! (fld ! refl (stop !))) (look-in ! 30 (sub ! 1 refl (whole !)))) (no-more !)))) (from ! (stop !)) (init ! 12 refl (tt, (tt, (record { fits = room-work .0 }, tt)))) $
           assigns ! (addr ! (from ! (fld ! refl (hop ! (look-in ! 28 (sub ! 0 refl (whole !))) (stop !))))) (from ! (stop !)) (init ! 10 refl (tt, tt)) $

@@ -4,7 +4,7 @@
 -- Assumes nothing.
 use Rattle.walks.proofs.Logic.{_≡_, refl, _∙_, Bool, false, ℕ, _<_, _^_, List, [], _∷_, lit<, leb, length, URA, fullShare, Ty, named, erased, imm, mut, w8, w16, w32, w64, tyInt, tyBool, tyUnit, tyRef, Val, vunit, vint, vbool, vptr, SProp, ent, Lft, Share, GName, ftrue, flft, Memory, Routine, Heap, Env, WpFn, Tables, Atoms, Fun, tablesOf, givenOf, tables, Given, Sq, runs, atRet, ‵, _⊛_, ⋆, _$_, _∵_, !, qed, by, move, keep, split, join, fsplit, fjoin, suffices, done, look, init, forget, stop, hop, fld, from, load, lit, addr, and-then, no-more, land, of-opd, assigns, returns-within, enter, alloc1, alloc0, params1, pass1, pass0, agg, whole, sub, look-in, fmOf, WpFn-mono, owns, Is, pointee, RefT, sliceTy, sliceVal, MutSlice, ShrSlice, Room, slice-vals, mut-slice-tells, shr-slice-tells, uint-makes, uint-vals, uint-tells, u8, u16, usize, owned, nothing, plain, onEntry, Meets, tripleOf, Triple, entered, cited, says, Stays, stay-none, stay-slice, stay-none-slice, walkOf, goes-none, goes-slice, goes-none-slice, Walks, ends-at, walked, walk-meets, yes}
 use Rattle.walks.proofs.Branches.{empty, full, holds, fails, guards}
-use Rattle.walks.proofs.Freed.{bare, held, released}
+use Rattle.walks.proofs.Freed.{bare, valued, released}
 use Rattle.walks.proofs.Lent.{lentAt, lend, regain, lend-shared, regain-shared, share}
 use Rattle.walks.proofs.Clauses.{needs-all}
 use denote.Struct.Laws as LL
@@ -115,7 +115,7 @@ module _ {M : Type 1} (𝓤 : URA M) (H : Heap 𝓤) (A : Atoms 𝓤) (W : Given
 
       part-10 : (states : ℕ) (ordered : List Record) (fits-states : states < 2 ^ 16) (same-ordered : length ordered ≡ length work) (numbered : NumberedInto count (statesAt count (work)) states (work) (ordered)) (size : ℕ) (fits-size : size < 2 ^ 32) (size-is : ((n k : ℕ) → size ≡ length (planBytes n k (keptRowsAt count (ordered))))) (enough : Bool) (enough-is : enough ≡ leb size (length plan)) (lacks-room : enough ≡ false) (answer : Answer) (is-answer : Is Answer-row.the-row answer (Answer-laws.lowered answer ∷ [])) (answer-is : answerOf answer ≡ counting 13 count states rounds 0) → Sq W (‵ (ShrSlice (named 0) κ-old u8 .own (lentAt b-old o-old γ-old old) (s-old ∷ [])) ∷ ‵ (flft κ-old q-old) ∷ ‵ (MutSlice (named 1) κ-work Record-row.the-row .own (lentAt b-work o-work γ-work ordered) (s-work ∷ [])) ∷ ‵ (flft κ-work q-work) ∷ ‵ (MutSlice (named 2) κ-plan u8 .own (lentAt b-plan o-plan γ-plan plan) (s-plan ∷ [])) ∷ ‵ (flft κ-plan q-plan) ∷ empty τ8 l20 (empty τ7 l19 (empty τ6 l18 (empty τ5 l17 (empty tyUnit l16 (empty (tyInt w64) l15 (empty tyBool l14 (empty τ6 l13 (empty τ5 l12 (empty τ4 l11 (empty τ3 l10 (empty (tyInt w8) l9 (empty (tyInt w32) l8 (empty (tyInt w16) l7 (empty (tyInt w16) l6 (empty (tyInt w64) l5 (empty τ2 l4 (empty τ1 l3 (empty τ0 l2 (empty (tyInt w8) l1 (full Answer-laws.mir l0 (Answer-laws.lowered answer) ([])))))))))))))))))))))) (runs (𝓣 .C) (𝓣 .Λ) En this-mir.t-11 (atRet En Ends))
       part-10 states ordered fits-states same-ordered numbered size fits-size size-is enough enough-is lacks-room answer is-answer answer-is =
-          returns-within ! Ends refl (look ! 46 refl) $ released ! (‵ (ShrSlice (named 0) κ-old u8 .own (lentAt b-old o-old γ-old old) (s-old ∷ [])) ∷ ‵ (flft κ-old q-old) ∷ ‵ (MutSlice (named 1) κ-work Record-row.the-row .own (lentAt b-work o-work γ-work ordered) (s-work ∷ [])) ∷ ‵ (flft κ-work q-work) ∷ ‵ (MutSlice (named 2) κ-plan u8 .own (lentAt b-plan o-plan γ-plan plan) (s-plan ∷ [])) ∷ ‵ (flft κ-plan q-plan) ∷ []) (held Answer-laws.mir l0 (Answer-laws.lowered answer) ∷ bare (tyInt w8) l1 ∷ bare τ0 l2 ∷ bare τ1 l3 ∷ bare τ2 l4 ∷ bare (tyInt w64) l5 ∷ bare (tyInt w16) l6 ∷ bare (tyInt w16) l7 ∷ bare (tyInt w32) l8 ∷ bare (tyInt w8) l9 ∷ bare τ3 l10 ∷ bare τ4 l11 ∷ bare τ5 l12 ∷ bare τ6 l13 ∷ bare tyBool l14 ∷ bare (tyInt w64) l15 ∷ bare tyUnit l16 ∷ bare τ5 l17 ∷ bare τ6 l18 ∷ bare τ7 l19 ∷ bare τ8 l20 ∷ []) $ by ! (exits answer ordered plan is-answer (same-ordered ∙ refl) refl (plan-refused k old count rounds work unnumbered numbered size-is plan enough-is lacks-room answer-is))
+          returns-within ! Ends refl (look ! 46 refl) $ released ! (‵ (ShrSlice (named 0) κ-old u8 .own (lentAt b-old o-old γ-old old) (s-old ∷ [])) ∷ ‵ (flft κ-old q-old) ∷ ‵ (MutSlice (named 1) κ-work Record-row.the-row .own (lentAt b-work o-work γ-work ordered) (s-work ∷ [])) ∷ ‵ (flft κ-work q-work) ∷ ‵ (MutSlice (named 2) κ-plan u8 .own (lentAt b-plan o-plan γ-plan plan) (s-plan ∷ [])) ∷ ‵ (flft κ-plan q-plan) ∷ []) (valued Answer-laws.mir l0 (Answer-laws.lowered answer) ∷ bare (tyInt w8) l1 ∷ bare τ0 l2 ∷ bare τ1 l3 ∷ bare τ2 l4 ∷ bare (tyInt w64) l5 ∷ bare (tyInt w16) l6 ∷ bare (tyInt w16) l7 ∷ bare (tyInt w32) l8 ∷ bare (tyInt w8) l9 ∷ bare τ3 l10 ∷ bare τ4 l11 ∷ bare τ5 l12 ∷ bare τ6 l13 ∷ bare tyBool l14 ∷ bare (tyInt w64) l15 ∷ bare tyUnit l16 ∷ bare τ5 l17 ∷ bare τ6 l18 ∷ bare τ7 l19 ∷ bare τ8 l20 ∷ []) $ by ! (exits answer ordered plan is-answer (same-ordered ∙ refl) refl (plan-refused k old count rounds work unnumbered numbered size-is plan enough-is lacks-room answer-is))
 
       part-1 : Sq W (‵ (ShrSlice (named 0) κ-old u8 .own (lentAt b-old o-old γ-old old) (s-old ∷ [])) ∷ ‵ (flft κ-old q-old) ∷ ‵ (MutSlice (named 1) κ-work Record-row.the-row .own (lentAt b-work o-work γ-work work) (s-work ∷ [])) ∷ ‵ (flft κ-work q-work) ∷ ‵ (MutSlice (named 2) κ-plan u8 .own (lentAt b-plan o-plan γ-plan plan) (s-plan ∷ [])) ∷ ‵ (flft κ-plan q-plan) ∷ empty τ8 l20 (empty τ7 l19 (empty τ6 l18 (empty τ5 l17 (empty tyUnit l16 (empty (tyInt w64) l15 (empty tyBool l14 (empty τ6 l13 (empty τ5 l12 (empty τ4 l11 (empty τ3 l10 (empty (tyInt w8) l9 (empty (tyInt w32) l8 (empty (tyInt w16) l7 (full (tyInt w16) l6 (vint w16 rounds) (full (tyInt w64) l5 (vint w64 count) (full τ2 l4 (s-plan) (full τ1 l3 (s-work) (full τ0 l2 (s-old) (full (tyInt w8) l1 (vint w8 k) (empty Answer-laws.mir l0 ([])))))))))))))))))))))) (runs (𝓣 .C) (𝓣 .Λ) En this-mir.t-1 (atRet En Ends))
       part-1 =
@@ -151,7 +151,7 @@ module _ {M : Type 1} (𝓤 : URA M) (H : Heap 𝓤) (A : Atoms 𝓤) (W : Given
           calls-with-counts 𝓤 H A W mem run 0 count states rounds size (fmOf 𝓤 H (W .laws) 𝓣) known-with-counts (lit< tt) fits-count fits-states fits-rounds fits-size (unnumbered .settled .few)
           (and-then ! (lit ! tt) (and-then ! (load ! (from ! (stop !)) (look ! 37 refl)) (and-then ! (load ! (from ! (stop !)) (look ! 33 refl)) (and-then ! (load ! (from ! (stop !)) (look ! 35 refl)) (and-then ! (load ! (from ! (stop !)) (look ! 31 refl)) (no-more !)))))) (λ answer is-answer answer-is.
           land ! (from ! (stop !)) (init ! 46 refl (LL.lawful Answer-row.the-type Answer-laws.the-laws 𝓤 H A W .typed answer _ is-answer .0)) $
-          returns-within ! Ends refl (look ! 46 refl) $ released ! (‵ (ShrSlice (named 0) κ-old u8 .own (lentAt b-old o-old γ-old old) (s-old ∷ [])) ∷ ‵ (flft κ-old q-old) ∷ ‵ (MutSlice (named 1) κ-work Record-row.the-row .own (lentAt b-work o-work γ-work ordered) (s-work ∷ [])) ∷ ‵ (flft κ-work q-work) ∷ ‵ (MutSlice (named 2) κ-plan u8 .own (lentAt b-plan o-plan γ-plan written) (s-plan ∷ [])) ∷ ‵ (flft κ-plan q-plan) ∷ []) (held Answer-laws.mir l0 (Answer-laws.lowered answer) ∷ held (tyInt w8) l1 (vint w8 k) ∷ held τ0 l2 (s-old) ∷ held τ1 l3 (s-work) ∷ held τ2 l4 (s-plan) ∷ held (tyInt w64) l5 (vint w64 count) ∷ held (tyInt w16) l6 (vint w16 rounds) ∷ held (tyInt w16) l7 (vint w16 states) ∷ held (tyInt w32) l8 (vint w32 size) ∷ held (tyInt w8) l9 (vint w8 n) ∷ held τ3 l10 (vptr b-work o-work) ∷ held τ4 l11 (s-work) ∷ held τ5 l12 (vptr b-work o-work) ∷ held τ6 l13 (s-work) ∷ held tyBool l14 (vbool enough) ∷ held (tyInt w64) l15 (vint w64 (length plan)) ∷ held tyUnit l16 (vunit) ∷ held τ5 l17 (vptr b-work o-work) ∷ held τ6 l18 (s-work) ∷ held τ7 l19 (vptr b-plan o-plan) ∷ held τ8 l20 (s-plan) ∷ []) $ by ! (exits answer ordered written is-answer (same-ordered ∙ refl) (same-written ∙ refl) (plan-emitted k old count rounds work unnumbered numbered size-is plan enough-is has-room n-is is-written answer-is)))))))))))
+          returns-within ! Ends refl (look ! 46 refl) $ released ! (‵ (ShrSlice (named 0) κ-old u8 .own (lentAt b-old o-old γ-old old) (s-old ∷ [])) ∷ ‵ (flft κ-old q-old) ∷ ‵ (MutSlice (named 1) κ-work Record-row.the-row .own (lentAt b-work o-work γ-work ordered) (s-work ∷ [])) ∷ ‵ (flft κ-work q-work) ∷ ‵ (MutSlice (named 2) κ-plan u8 .own (lentAt b-plan o-plan γ-plan written) (s-plan ∷ [])) ∷ ‵ (flft κ-plan q-plan) ∷ []) (valued Answer-laws.mir l0 (Answer-laws.lowered answer) ∷ valued (tyInt w8) l1 (vint w8 k) ∷ valued τ0 l2 (s-old) ∷ valued τ1 l3 (s-work) ∷ valued τ2 l4 (s-plan) ∷ valued (tyInt w64) l5 (vint w64 count) ∷ valued (tyInt w16) l6 (vint w16 rounds) ∷ valued (tyInt w16) l7 (vint w16 states) ∷ valued (tyInt w32) l8 (vint w32 size) ∷ valued (tyInt w8) l9 (vint w8 n) ∷ valued τ3 l10 (vptr b-work o-work) ∷ valued τ4 l11 (s-work) ∷ valued τ5 l12 (vptr b-work o-work) ∷ valued τ6 l13 (s-work) ∷ valued tyBool l14 (vbool enough) ∷ valued (tyInt w64) l15 (vint w64 (length plan)) ∷ valued tyUnit l16 (vunit) ∷ valued τ5 l17 (vptr b-work o-work) ∷ valued τ6 l18 (s-work) ∷ valued τ7 l19 (vptr b-plan o-plan) ∷ valued τ8 l20 (s-plan) ∷ []) $ by ! (exits answer ordered written is-answer (same-ordered ∙ refl) (same-written ∙ refl) (plan-emitted k old count rounds work unnumbered numbered size-is plan enough-is has-room n-is is-written answer-is)))))))))))
           (λ lacks-room. calls-with-counts 𝓤 H A W mem run 13 count states rounds 0 (fmOf 𝓤 H (W .laws) 𝓣) known-with-counts (lit< tt) fits-count fits-states fits-rounds (lit< tt) (unnumbered .settled .few)
           (and-then ! (lit ! tt) (and-then ! (load ! (from ! (stop !)) (look ! 37 refl)) (and-then ! (load ! (from ! (stop !)) (look ! 33 refl)) (and-then ! (load ! (from ! (stop !)) (look ! 35 refl)) (and-then ! (lit ! tt) (no-more !)))))) (λ answer is-answer answer-is.
           land ! (from ! (stop !)) (init ! 46 refl (LL.lawful Answer-row.the-type Answer-laws.the-laws 𝓤 H A W .typed answer _ is-answer .0)) $

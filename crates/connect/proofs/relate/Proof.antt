@@ -4,7 +4,7 @@
 -- Assumes nothing.
 use Rattle.walks.proofs.Logic.{_≡_, refl, _∙_, not, ℕ, _<_, _^_, List, [], _∷_, lit<, eqb, length, URA, fullShare, Ty, named, erased, imm, mut, w8, w16, w64, tyInt, tyBool, tyRef, Val, vint, vbool, vptr, SProp, ent, Lft, Share, GName, ftrue, flft, Memory, Routine, Heap, Env, WpFn, Tables, Atoms, Fun, tablesOf, givenOf, tables, Given, Sq, runs, atRet, ‵, _⊛_, ⋆, _$_, _∵_, !, qed, by, move, keep, split, join, fsplit, fjoin, suffices, done, look, init, stop, hop, fld, from, load, lit, addr, and-then, no-more, land, bin, assigns, returns-within, enter, alloc1, alloc0, params1, pass1, pass0, agg, whole, sub, look-in, fmOf, WpFn-mono, owns, Is, pointee, RefT, sliceTy, sliceVal, MutSlice, ShrSlice, Room, slice-vals, mut-slice-tells, shr-slice-tells, uint-makes, uint-vals, uint-tells, u8, usize, owned, nothing, plain, onEntry, Meets, tripleOf, Triple, entered, cited, says, Stays, stay-none, stay-slice, stay-none-slice, walkOf, goes-none, goes-slice, goes-none-slice, Walks, ends-at, walked, walk-meets, yes}
 use Rattle.walks.proofs.Branches.{empty, full, unequal, not-unequal, guards}
-use Rattle.walks.proofs.Freed.{bare, held, released}
+use Rattle.walks.proofs.Freed.{bare, valued, released}
 use Rattle.walks.proofs.Lent.{lentAt, lend, regain, lend-shared, regain-shared, share}
 use Rattle.walks.proofs.Clauses.{needs-all}
 use denote.Struct.Laws as LL
@@ -129,7 +129,7 @@ module _ {M : Type 1} (𝓤 : URA M) (H : Heap 𝓤) (A : Atoms 𝓤) (W : Given
           (λ gone. calls-with-counts 𝓤 H A W mem run 12 count 0 rounds 0 (fmOf 𝓤 H (W .laws) 𝓣) known-with-counts (lit< tt) fits-count (lit< tt) fits-rounds (lit< tt) (searched .situated .few)
           (and-then ! (lit ! tt) (and-then ! (load ! (from ! (stop !)) (look ! 31 refl)) (and-then ! (lit ! tt) (and-then ! (load ! (from ! (stop !)) (look ! 29 refl)) (and-then ! (lit ! tt) (no-more !)))))) (λ answer is-answer answer-is.
           land ! (from ! (stop !)) (init ! 42 refl (LL.lawful Answer-row.the-type Answer-laws.the-laws 𝓤 H A W .typed answer _ is-answer .0)) $
-          returns-within ! Ends refl (look ! 42 refl) $ released ! (‵ (ShrSlice (named 0) κ-old u8 .own (lentAt b-old o-old γ-old old) (s-old ∷ [])) ∷ ‵ (flft κ-old q-old) ∷ ‵ (ShrSlice (named 1) κ-new u8 .own (lentAt b-new o-new γ-new new) (s-new ∷ [])) ∷ ‵ (flft κ-new q-new) ∷ ‵ (MutSlice (named 2) κ-work Record-row.the-row .own (lentAt b-work o-work γ-work settled) (s-work ∷ [])) ∷ ‵ (flft κ-work q-work) ∷ ‵ (MutSlice (named 3) κ-plan u8 .own (lentAt b-plan o-plan γ-plan plan) (s-plan ∷ [])) ∷ ‵ (flft κ-plan q-plan) ∷ []) (held Answer-laws.mir l0 (Answer-laws.lowered answer) ∷ held (tyInt w8) l1 (vint w8 k) ∷ held τ0 l2 (s-old) ∷ held τ1 l3 (s-new) ∷ held τ2 l4 (s-work) ∷ held τ3 l5 (s-plan) ∷ held (tyInt w64) l6 (vint w64 count) ∷ held (tyInt w16) l7 (vint w16 rounds) ∷ held Record-laws.mir l8 (Record-laws.lowered begin) ∷ held τ4 l9 (vptr b-work o-work) ∷ held τ5 l10 (s-work) ∷ held τ6 l11 (vptr b-work o-work) ∷ held τ7 l12 (s-work) ∷ held tyBool l13 (vbool (not (eqb (begin .mark) 0))) ∷ bare τ4 l14 ∷ bare τ5 l15 ∷ bare τ8 l16 ∷ bare τ9 l17 ∷ []) $ by ! (exits answer settled plan is-answer (same-settled ∙ refl) refl (relate-removed k old new count rounds work searched some-situation settled-is begin-is gone answer plan answer-is))))
+          returns-within ! Ends refl (look ! 42 refl) $ released ! (‵ (ShrSlice (named 0) κ-old u8 .own (lentAt b-old o-old γ-old old) (s-old ∷ [])) ∷ ‵ (flft κ-old q-old) ∷ ‵ (ShrSlice (named 1) κ-new u8 .own (lentAt b-new o-new γ-new new) (s-new ∷ [])) ∷ ‵ (flft κ-new q-new) ∷ ‵ (MutSlice (named 2) κ-work Record-row.the-row .own (lentAt b-work o-work γ-work settled) (s-work ∷ [])) ∷ ‵ (flft κ-work q-work) ∷ ‵ (MutSlice (named 3) κ-plan u8 .own (lentAt b-plan o-plan γ-plan plan) (s-plan ∷ [])) ∷ ‵ (flft κ-plan q-plan) ∷ []) (valued Answer-laws.mir l0 (Answer-laws.lowered answer) ∷ valued (tyInt w8) l1 (vint w8 k) ∷ valued τ0 l2 (s-old) ∷ valued τ1 l3 (s-new) ∷ valued τ2 l4 (s-work) ∷ valued τ3 l5 (s-plan) ∷ valued (tyInt w64) l6 (vint w64 count) ∷ valued (tyInt w16) l7 (vint w16 rounds) ∷ valued Record-laws.mir l8 (Record-laws.lowered begin) ∷ valued τ4 l9 (vptr b-work o-work) ∷ valued τ5 l10 (s-work) ∷ valued τ6 l11 (vptr b-work o-work) ∷ valued τ7 l12 (s-work) ∷ valued tyBool l13 (vbool (not (eqb (begin .mark) 0))) ∷ bare τ4 l14 ∷ bare τ5 l15 ∷ bare τ8 l16 ∷ bare τ9 l17 ∷ []) $ by ! (exits answer settled plan is-answer (same-settled ∙ refl) refl (relate-removed k old new count rounds work searched some-situation settled-is begin-is gone answer plan answer-is))))
           (λ stays. assigns ! (addr ! (from ! (fld ! refl (hop ! (look-in ! 34 (sub ! 0 refl (whole !))) (stop !))))) (from ! (stop !)) (init ! 14 refl (tt, tt)) $
           assigns ! (agg ! (and-then ! (load ! (from ! (stop !)) (look ! 14 refl)) (and-then ! (load ! (from ! (fld ! refl (stop !))) (look-in ! 34 (sub ! 1 refl (whole !)))) (no-more !)))) (from ! (stop !)) (init ! 12 refl (tt, (tt, (record { fits = room-work .0 }, tt)))) $
           assigns ! (addr ! (from ! (fld ! refl (hop ! (look-in ! 32 (sub ! 0 refl (whole !))) (stop !))))) (from ! (stop !)) (init ! 10 refl (tt, tt)) $
@@ -138,7 +138,7 @@ module _ {M : Type 1} (𝓤 : URA M) (H : Heap 𝓤) (A : Atoms 𝓤) (W : Given
           calls-emit 𝓤 H A W mem run k κ-old q-old (lentAt b-old o-old γ-old old) s-old (ν-6-work ∷ []) fullShare (lentAt b-work o-work δ-6-work settled) s-work (ν-6-plan ∷ []) fullShare (lentAt b-plan o-plan δ-6-plan plan) s-plan count rounds (fmOf 𝓤 H (W .laws) 𝓣) known-emit fits-k fits-count fits-rounds (searched .situated .old-sheet) (emit-needs k old new count rounds work searched some-situation settled-is begin-is stays)
           (and-then ! (load ! (from ! (stop !)) (look ! 38 refl)) (and-then ! (load ! (from ! (stop !)) (look ! 36 refl)) (and-then ! (load ! (from ! (stop !)) (look ! 10 refl)) (and-then ! (load ! (from ! (stop !)) (look ! 6 refl)) (and-then ! (load ! (from ! (stop !)) (look ! 28 refl)) (and-then ! (load ! (from ! (stop !)) (look ! 26 refl)) (no-more !))))))) (λ answer emitted written is-answer same-emitted same-written is-written.
           move ! (1 ∷ 6 ∷ 2 ∷ []) $ regain ! tt Record-row.the-row (named 2) κ-work q-work γ-work b-work o-work (length work) settled (same-settled ∙ refl) ν-6-work δ-6-work emitted room-work same-emitted (move ! (3 ∷ 5 ∷ 4 ∷ []) $ regain ! tt u8 (named 3) κ-plan q-plan γ-plan b-plan o-plan (length plan) plan refl ν-6-plan δ-6-plan written room-plan same-written (move ! (5 ∷ 4 ∷ 6 ∷ 7 ∷ 2 ∷ 3 ∷ 0 ∷ 1 ∷ []) $ land ! (from ! (stop !)) (init ! 42 refl (LL.lawful Answer-row.the-type Answer-laws.the-laws 𝓤 H A W .typed answer _ is-answer .0)) $
-          returns-within ! Ends refl (look ! 42 refl) $ released ! (‵ (ShrSlice (named 0) κ-old u8 .own (lentAt b-old o-old γ-old old) (s-old ∷ [])) ∷ ‵ (flft κ-old q-old) ∷ ‵ (ShrSlice (named 1) κ-new u8 .own (lentAt b-new o-new γ-new new) (s-new ∷ [])) ∷ ‵ (flft κ-new q-new) ∷ ‵ (MutSlice (named 2) κ-work Record-row.the-row .own (lentAt b-work o-work γ-work emitted) (s-work ∷ [])) ∷ ‵ (flft κ-work q-work) ∷ ‵ (MutSlice (named 3) κ-plan u8 .own (lentAt b-plan o-plan γ-plan written) (s-plan ∷ [])) ∷ ‵ (flft κ-plan q-plan) ∷ []) (held Answer-laws.mir l0 (Answer-laws.lowered answer) ∷ held (tyInt w8) l1 (vint w8 k) ∷ held τ0 l2 (s-old) ∷ held τ1 l3 (s-new) ∷ held τ2 l4 (s-work) ∷ held τ3 l5 (s-plan) ∷ held (tyInt w64) l6 (vint w64 count) ∷ held (tyInt w16) l7 (vint w16 rounds) ∷ held Record-laws.mir l8 (Record-laws.lowered begin) ∷ held τ4 l9 (vptr b-work o-work) ∷ held τ5 l10 (s-work) ∷ held τ6 l11 (vptr b-work o-work) ∷ held τ7 l12 (s-work) ∷ held tyBool l13 (vbool (not (eqb (begin .mark) 0))) ∷ held τ4 l14 (vptr b-work o-work) ∷ held τ5 l15 (s-work) ∷ held τ8 l16 (vptr b-plan o-plan) ∷ held τ9 l17 (s-plan) ∷ []) $ by ! (exits answer emitted written is-answer (same-emitted ∙ (same-settled ∙ refl)) (same-written ∙ refl) (relate-kept k old new count rounds work searched some-situation settled-is begin-is stays answer plan written is-written)))))))))))))))))
+          returns-within ! Ends refl (look ! 42 refl) $ released ! (‵ (ShrSlice (named 0) κ-old u8 .own (lentAt b-old o-old γ-old old) (s-old ∷ [])) ∷ ‵ (flft κ-old q-old) ∷ ‵ (ShrSlice (named 1) κ-new u8 .own (lentAt b-new o-new γ-new new) (s-new ∷ [])) ∷ ‵ (flft κ-new q-new) ∷ ‵ (MutSlice (named 2) κ-work Record-row.the-row .own (lentAt b-work o-work γ-work emitted) (s-work ∷ [])) ∷ ‵ (flft κ-work q-work) ∷ ‵ (MutSlice (named 3) κ-plan u8 .own (lentAt b-plan o-plan γ-plan written) (s-plan ∷ [])) ∷ ‵ (flft κ-plan q-plan) ∷ []) (valued Answer-laws.mir l0 (Answer-laws.lowered answer) ∷ valued (tyInt w8) l1 (vint w8 k) ∷ valued τ0 l2 (s-old) ∷ valued τ1 l3 (s-new) ∷ valued τ2 l4 (s-work) ∷ valued τ3 l5 (s-plan) ∷ valued (tyInt w64) l6 (vint w64 count) ∷ valued (tyInt w16) l7 (vint w16 rounds) ∷ valued Record-laws.mir l8 (Record-laws.lowered begin) ∷ valued τ4 l9 (vptr b-work o-work) ∷ valued τ5 l10 (s-work) ∷ valued τ6 l11 (vptr b-work o-work) ∷ valued τ7 l12 (s-work) ∷ valued tyBool l13 (vbool (not (eqb (begin .mark) 0))) ∷ valued τ4 l14 (vptr b-work o-work) ∷ valued τ5 l15 (s-work) ∷ valued τ8 l16 (vptr b-plan o-plan) ∷ valued τ9 l17 (s-plan) ∷ []) $ by ! (exits answer emitted written is-answer (same-emitted ∙ (same-settled ∙ refl)) (same-written ∙ refl) (relate-kept k old new count rounds work searched some-situation settled-is begin-is stays answer plan written is-written)))))))))))))))))
 
     walk : ent 𝓤 (onEntry 𝓤 H A this.signature (κ-old, (κ-new, (κ-work, (κ-plan, tt)))) (q-old, (q-new, (q-work, (q-plan, tt)))) args machine) (WpFn 𝓤 H (𝓣 .C) (𝓣 .Λ) this-code.function (vint w8 k ∷ s-old ∷ s-new ∷ s-work ∷ s-plan ∷ vint w64 count ∷ []) Ends)
     walk =

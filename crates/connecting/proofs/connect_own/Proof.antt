@@ -4,7 +4,7 @@
 -- Assumes nothing.
 use Rattle.walks.proofs.Logic.{_≡_, refl, ap, _∙_, ℕ, _<_, _^_, List, [], _∷_, lit<, length, URA, fullShare, Ty, named, erased, imm, mut, w8, tyInt, tyRef, tyArray, Val, vint, vptr, SProp, ent, emp, via, fst∗, Lft, Share, GName, ftrue, flft, Memory, Routine, Heap, Env, WpFn, Tables, Atoms, Fun, tablesOf, givenOf, tables, Given, Sq, runs, atRet, ‵, _⊛_, ⋆, _$_, _∵_, !, qed, by, move, keep, split, join, fsplit, fjoin, suffices, done, look, init, stop, hop, fld, from, load, addr, and-then, no-more, land, assigns, returns-within, enter, alloc1, alloc0, params1, pass1, pass0, agg, rep, whole, sub, look-in, fmOf, WpFn-mono, owns, Is, pointee, RefT, sliceTy, sliceVal, MutSlice, ShrSlice, Room, slice-vals, mut-slice-tells, shr-slice-tells, uint-makes, uint-vals, uint-tells, u8, owned, nothing, plain, onEntry, Meets, tripleOf, Triple, entered, cited, Stays, stay-none, stay-slice, stay-none-slice, walkOf, goes-none, goes-slice, goes-none-slice, Walks, ends-at, walked, walk-meets, yes}
 use Rattle.walks.proofs.Branches.{empty, full}
-use Rattle.walks.proofs.Freed.{bare, held, released}
+use Rattle.walks.proofs.Freed.{bare, valued, released}
 use Rattle.walks.proofs.Lent.{lentAt, lend, regain, share}
 use Rattle.walks.proofs.LocalTable.{big-lit, array-fits, open-table, close-table}
 use Rattle.walks.proofs.Clauses.{says-all}
@@ -112,7 +112,7 @@ module _ {M : Type 1} (𝓤 : URA M) (H : Heap 𝓤) (A : Atoms 𝓤) (W : Given
           calls-connect 𝓤 H A W mem run k κ-old q-old (lentAt b-old o-old γ-old old) s-old κ-new q-new (lentAt b-new o-new γ-new new) s-new (ν-3-work ∷ []) fullShare (lentAt l6 0 δ-3-work work) (sliceVal (l6, 0) 1024) (ν-3-plan ∷ []) fullShare (lentAt b-plan o-plan δ-3-plan plan) s-plan (fmOf 𝓤 H (W .laws) 𝓣) known-connect fits-k
           (and-then ! (load ! (from ! (stop !)) (look ! 23 refl)) (and-then ! (load ! (from ! (stop !)) (look ! 21 refl)) (and-then ! (load ! (from ! (stop !)) (look ! 19 refl)) (and-then ! (load ! (from ! (stop !)) (look ! 10 refl)) (and-then ! (load ! (from ! (stop !)) (look ! 6 refl)) (no-more !)))))) (λ answer left written is-answer same-left same-written outcome.
           move ! (2 ∷ 7 ∷ 3 ∷ []) $ regain ! tt Record-row.the-row (named 0) (ν-work ∷ []) fullShare γ-work l6 0 1024 work long-work ν-3-work δ-3-work left room-work same-left (move ! (4 ∷ 6 ∷ 5 ∷ []) $ regain ! tt u8 (named 2) κ-plan q-plan γ-plan b-plan o-plan (length plan) plan refl ν-3-plan δ-3-plan written room-plan same-written (move ! (7 ∷ 4 ∷ 6 ∷ 5 ∷ 0 ∷ 1 ∷ 2 ∷ 3 ∷ []) $ land ! (from ! (stop !)) (init ! 28 refl (LL.lawful Answer-row.the-type Answer-laws.the-laws 𝓤 H A W .typed answer _ is-answer .0)) $
-          move ! (6 ∷ 7 ∷ 8 ∷ []) $ close-table ! tt Record-row.the-row 1024 l6 ν-work γ-work left (returns-within ! Ends refl (look ! 26 refl) $ move ! (1 ∷ 2 ∷ 3 ∷ 4 ∷ 5 ∷ 6 ∷ 7 ∷ 8 ∷ 9 ∷ 10 ∷ 11 ∷ 12 ∷ 13 ∷ 14 ∷ []) $ released ! (‵ (ShrSlice (named 0) κ-old u8 .own (lentAt b-old o-old γ-old old) (s-old ∷ [])) ∷ ‵ (flft κ-old q-old) ∷ ‵ (ShrSlice (named 1) κ-new u8 .own (lentAt b-new o-new γ-new new) (s-new ∷ [])) ∷ ‵ (flft κ-new q-new) ∷ ‵ (MutSlice (named 2) κ-plan u8 .own (lentAt b-plan o-plan γ-plan written) (s-plan ∷ [])) ∷ ‵ (flft κ-plan q-plan) ∷ []) (held Answer-laws.mir l0 (Answer-laws.lowered answer) ∷ held (tyInt w8) l1 (vint w8 k) ∷ held τ0 l2 (s-old) ∷ held τ1 l3 (s-new) ∷ held τ2 l4 (s-plan) ∷ held Record-laws.mir l5 (Record-laws.lowered z) ∷ bare τ3 l6 ∷ held τ4 l7 (vptr l6 0) ∷ held τ5 l8 ((sliceVal (l6, 0) 1024)) ∷ held τ6 l9 (vptr b-plan o-plan) ∷ held τ7 l10 (s-plan) ∷ []) $ by ! (exits answer written is-answer (same-written ∙ refl) (ap (λ (c : Connected Record). c .answer) (own-outcome k old new plan z work _ is-zero made-work outcome)) (ap (λ (c : Connected Record). c .plan) (own-outcome k old new plan z work _ is-zero made-work outcome)))))))))))))
+          move ! (6 ∷ 7 ∷ 8 ∷ []) $ close-table ! tt Record-row.the-row 1024 l6 ν-work γ-work left (returns-within ! Ends refl (look ! 26 refl) $ move ! (1 ∷ 2 ∷ 3 ∷ 4 ∷ 5 ∷ 6 ∷ 7 ∷ 8 ∷ 9 ∷ 10 ∷ 11 ∷ 12 ∷ 13 ∷ 14 ∷ []) $ released ! (‵ (ShrSlice (named 0) κ-old u8 .own (lentAt b-old o-old γ-old old) (s-old ∷ [])) ∷ ‵ (flft κ-old q-old) ∷ ‵ (ShrSlice (named 1) κ-new u8 .own (lentAt b-new o-new γ-new new) (s-new ∷ [])) ∷ ‵ (flft κ-new q-new) ∷ ‵ (MutSlice (named 2) κ-plan u8 .own (lentAt b-plan o-plan γ-plan written) (s-plan ∷ [])) ∷ ‵ (flft κ-plan q-plan) ∷ []) (valued Answer-laws.mir l0 (Answer-laws.lowered answer) ∷ valued (tyInt w8) l1 (vint w8 k) ∷ valued τ0 l2 (s-old) ∷ valued τ1 l3 (s-new) ∷ valued τ2 l4 (s-plan) ∷ valued Record-laws.mir l5 (Record-laws.lowered z) ∷ bare τ3 l6 ∷ valued τ4 l7 (vptr l6 0) ∷ valued τ5 l8 ((sliceVal (l6, 0) 1024)) ∷ valued τ6 l9 (vptr b-plan o-plan) ∷ valued τ7 l10 (s-plan) ∷ []) $ by ! (exits answer written is-answer (same-written ∙ refl) (ap (λ (c : Connected Record). c .answer) (own-outcome k old new plan z work _ is-zero made-work outcome)) (ap (λ (c : Connected Record). c .plan) (own-outcome k old new plan z work _ is-zero made-work outcome)))))))))))))
 
     walk : ent 𝓤 (onEntry 𝓤 H A this.signature (κ-old, (κ-new, (κ-plan, tt))) (q-old, (q-new, (q-plan, tt))) args machine) (WpFn 𝓤 H (𝓣 .C) (𝓣 .Λ) this-code.function (vint w8 k ∷ s-old ∷ s-new ∷ s-plan ∷ []) Ends)
     walk =

@@ -3,7 +3,7 @@
 -- Assumes nothing.
 use Rattle.walks.proofs.Logic.{_≡_, refl, ℕ, _<_, _^_, List, [], _∷_, length, URA, Ty, named, imm, w16, w32, w64, tyInt, tyRef, Val, vint, SProp, ent, Lft, Share, GName, ftrue, flft, Memory, Routine, Heap, Env, WpFn, Tables, Atoms, Fun, tablesOf, givenOf, tables, Given, Sq, runs, atRet, ‵, _⊛_, ⋆, _$_, _∵_, !, qed, by, move, keep, split, join, fsplit, fjoin, suffices, done, look, init, stop, from, load, and-then, no-more, land, returns-within, enter, alloc1, alloc0, params1, pass1, pass0, fmOf, WpFn-mono, owns, Is, pointee, RefT, sliceTy, sliceVal, ShrSlice, Room, slice-vals, shr-slice-tells, uint-makes, uint-vals, uint-tells, u16, u32, usize, owned, nothing, plain, onEntry, Meets, tripleOf, Triple, entered, cited, says, needs, Stays, stay-none, stay-none-slice, walkOf, goes-none, goes-none-slice, Walks, ends-at, walked, walk-meets, yes}
 use Rattle.walks.proofs.Branches.{empty, full}
-use Rattle.walks.proofs.Freed.{held, released}
+use Rattle.walks.proofs.Freed.{valued, released}
 use Rattle.walks.proofs.Lent.{lentAt, share}
 use denote.Struct.Laws as LL
 use Rattle.numbering.proofs.write.row_length_at as this
@@ -77,7 +77,7 @@ module _ {M : Type 1} (𝓤 : URA M) (H : Heap 𝓤) (A : Atoms 𝓤) (W : Given
           calls-row-length 𝓤 H A W mem run y (fmOf 𝓤 H (W .laws) 𝓣) known-row-length is-y
           (and-then ! (load ! (from ! (stop !)) (look ! 3 refl)) (no-more !)) (λ size fits-size size-is.
           land ! (from ! (stop !)) (init ! 14 refl (tt, record { fits = fits-size })) $
-          returns-within ! Ends refl (look ! 14 refl) $ released ! (‵ (ShrSlice (named 0) κ-work Record-row.the-row .own (lentAt b-work o-work γ-work work) (s-work ∷ [])) ∷ ‵ (flft κ-work q-work) ∷ []) (held (tyInt w32) l0 (vint w32 size) ∷ held τ0 l1 (s-work) ∷ held (tyInt w64) l2 (vint w64 count) ∷ held (tyInt w16) l3 (vint w16 states) ∷ held (tyInt w64) l4 (vint w64 p) ∷ held (tyInt w64) l5 (vint w64 i) ∷ held Record-laws.mir l6 (Record-laws.lowered y) ∷ []) $ by ! (exits size fits-size (state-row-at work state i-is y-is size-is)))))))
+          returns-within ! Ends refl (look ! 14 refl) $ released ! (‵ (ShrSlice (named 0) κ-work Record-row.the-row .own (lentAt b-work o-work γ-work work) (s-work ∷ [])) ∷ ‵ (flft κ-work q-work) ∷ []) (valued (tyInt w32) l0 (vint w32 size) ∷ valued τ0 l1 (s-work) ∷ valued (tyInt w64) l2 (vint w64 count) ∷ valued (tyInt w16) l3 (vint w16 states) ∷ valued (tyInt w64) l4 (vint w64 p) ∷ valued (tyInt w64) l5 (vint w64 i) ∷ valued Record-laws.mir l6 (Record-laws.lowered y) ∷ []) $ by ! (exits size fits-size (state-row-at work state i-is y-is size-is)))))))
 
     walk : ent 𝓤 (onEntry 𝓤 H A this.signature (κ-work, tt) (q-work, tt) args machine) (WpFn 𝓤 H (𝓣 .C) (𝓣 .Λ) this-code.function (s-work ∷ vint w64 count ∷ vint w16 states ∷ vint w64 p ∷ []) Ends)
     walk =

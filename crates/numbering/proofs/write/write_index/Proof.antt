@@ -4,7 +4,7 @@
 -- Assumes nothing.
 use Rattle.walks.proofs.Logic.{_≡_, refl, _∙_, WellFounded, InvImage·wf, ℕ, _<_, _^_, _+_, _-_, arith, List, [], _∷_, lit<, ltb, length, Nat·lt-wfRel, URA, fullShare, Ty, named, erased, imm, mut, w8, w16, w32, w64, tyPtr, tyInt, tyBool, tyUnit, tyRef, Val, vunit, vint, vbool, SProp, ent, Lft, Share, GName, ftrue, flft, Memory, Routine, afterTurn, Heap, Env, Out, Wp, WpFn, Tables, afterSeq, afterBlock, atReturn, Atoms, Fun, tablesOf, givenOf, tables, Given, Item, Sq, runs, anyQ, atRet, ‵, _⊛_, ⋆, _$_, _∵_, !, qed, by, move, keep, split, join, fsplit, fjoin, feqI, suffices, done, look, init, store, forget, stop, hop, fld, from, load, lit, unit-lit, addr, and-then, no-more, land, of-opd, bin, assigns, assigns-last, first, blocks, loops, again, Below, exec, returns-within, enter, alloc1, alloc0, params1, pass1, pass0, agg, whole, sub, look-in, fmOf, WpFn-mono, owns, Is, pointee, RefT, sliceTy, sliceVal, MutSlice, ShrSlice, Room, slice-vals, mut-slice-tells, shr-slice-tells, uint-makes, uint-vals, uint-tells, u8, u16, usize, owned, nothing, plain, onEntry, Meets, tripleOf, Triple, entered, cited, says, needs, Stays, stay-none, stay-slice, stay-none-slice, walkOf, goes-none, goes-slice, goes-none-slice, Walks, ends-at, walked, walk-meets, yes}
 use Rattle.walks.proofs.Branches.{empty, full, less-fits, below, not-below, tests}
-use Rattle.walks.proofs.Freed.{bare, held, released}
+use Rattle.walks.proofs.Freed.{bare, valued, released}
 use Rattle.walks.proofs.Lent.{lentAt, share}
 use Rattle.walks.proofs.Rest.{restOf, withRest, rest-long, lend-rest, regain-rest}
 use Rattle.numbering.proofs.write.write_index as this
@@ -125,7 +125,7 @@ module _ {M : Type 1} (𝓤 : URA M) (H : Heap 𝓤) (A : Atoms 𝓤) (W : Given
             forget ! 16 refl $ forget ! 14 refl $ forget ! 12 refl $ forget ! 10 refl $ forget ! 8 refl $ forget ! 6 refl $ forget ! 4 refl $ again ! Nearer At (row, (at, (p, (outs, (fits-row, (fits-at, (fits-p, (long-outs, (known))))))))) ((row + size), ((at + 4), ((p + 1), ((withRest at outs indexed), ((omega (arith, more-few work (writing .table) less last-is refl (known .measured) size-is)), ((omega (arith, index-place (writing .room) known, less, last-is, plan-few work (writing .table))), ((omega (arith, less, fits-last)), ((rest-long at outs indexed same-indexed ∙ long-outs), (index-next (writing .room) known (next-row work (writing .table) less last-is refl) entry-is size-is))))))))) (omega (arith, less, last-is))))))))
             (λ over. exec ! (𝓣 .C) (𝓣 .Λ) En this-mir.t-6 (atRet En Ends) $
             assigns ! (of-opd ! (unit-lit !)) (from ! (stop !)) (init ! 34 refl (tt, tt)) $
-            returns-within ! Ends refl (look ! 34 refl) $ released ! (‵ (ShrSlice (named 0) κ-work Record-row.the-row .own (lentAt b-work o-work γ-work work) (s-work ∷ [])) ∷ ‵ (flft κ-work q-work) ∷ ‵ (MutSlice (named 1) κ-out u8 .own (lentAt b-out o-out γ-out outs) (s-out ∷ [])) ∷ ‵ (flft κ-out q-out) ∷ []) (held tyUnit l0 (vunit) ∷ held τ0 l1 (s-work) ∷ held (tyInt w64) l2 (vint w64 count) ∷ held (tyInt w16) l3 (vint w16 states) ∷ held τ1 l4 (s-out) ∷ held (tyInt w64) l5 (vint w64 last) ∷ held (tyInt w32) l6 (vint w32 row) ∷ held (tyInt w64) l7 (vint w64 at) ∷ held (tyInt w64) l8 (vint w64 p) ∷ held tyBool l9 (vbool (ltb p last)) ∷ bare tyUnit l10 ∷ bare tyPtr l11 ∷ bare (tyInt w64) l12 ∷ bare τ2 l13 ∷ bare τ3 l14 ∷ bare (tyInt w32) l15 ∷ []) $ by ! (exits outs long-outs (index-written (writing .room) known (rows-done work (writing .table) over last-is))))
+            returns-within ! Ends refl (look ! 34 refl) $ released ! (‵ (ShrSlice (named 0) κ-work Record-row.the-row .own (lentAt b-work o-work γ-work work) (s-work ∷ [])) ∷ ‵ (flft κ-work q-work) ∷ ‵ (MutSlice (named 1) κ-out u8 .own (lentAt b-out o-out γ-out outs) (s-out ∷ [])) ∷ ‵ (flft κ-out q-out) ∷ []) (valued tyUnit l0 (vunit) ∷ valued τ0 l1 (s-work) ∷ valued (tyInt w64) l2 (vint w64 count) ∷ valued (tyInt w16) l3 (vint w16 states) ∷ valued τ1 l4 (s-out) ∷ valued (tyInt w64) l5 (vint w64 last) ∷ valued (tyInt w32) l6 (vint w32 row) ∷ valued (tyInt w64) l7 (vint w64 at) ∷ valued (tyInt w64) l8 (vint w64 p) ∷ valued tyBool l9 (vbool (ltb p last)) ∷ bare tyUnit l10 ∷ bare tyPtr l11 ∷ bare (tyInt w64) l12 ∷ bare τ2 l13 ∷ bare τ3 l14 ∷ bare (tyInt w32) l15 ∷ []) $ by ! (exits outs long-outs (index-written (writing .room) known (rows-done work (writing .table) over last-is))))
 
         turns : (t : State) → Sq W (At t) (runs (𝓣 .C) (𝓣 .Λ) En this-mir.turn-1 (anyQ (Turned t)))
         turns t = turn (t .0) (t .1 .0) (t .1 .1 .0) (t .1 .1 .1 .0) (t .1 .1 .1 .1 .0) (t .1 .1 .1 .1 .1 .0) (t .1 .1 .1 .1 .1 .1 .0) (t .1 .1 .1 .1 .1 .1 .1 .0) (t .1 .1 .1 .1 .1 .1 .1 .1)

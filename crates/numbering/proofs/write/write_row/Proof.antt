@@ -4,7 +4,7 @@
 -- Assumes nothing.
 use Rattle.walks.proofs.Logic.{_≡_, refl, _∙_, not, WellFounded, InvImage·wf, ℕ, _<_, _^_, _+_, _-_, arith, List, [], _∷_, lit<, eqb, length, getD, Nat·lt-wfRel, URA, fullShare, Ty, named, erased, imm, mut, w8, w16, w64, tyPtr, tyInt, tyBool, tyUnit, tyRef, Val, vint, vbool, SProp, ent, Lft, Share, GName, ftrue, flft, Memory, Routine, afterTurn, Heap, Env, Out, Wp, WpFn, Tables, afterSeq, afterBlock, atReturn, Atoms, Fun, tablesOf, givenOf, tables, Given, Item, Sq, runs, anyQ, atRet, ‵, _⊛_, ⋆, _$_, _∵_, !, qed, by, move, keep, split, join, fsplit, fjoin, suffices, done, look, init, store, forget, stop, hop, fld, from, load, lit, addr, and-then, no-more, land, land-last, of-opd, bin, assigns, first, blocks, loops, again, Below, exec, returns-within, enter, alloc1, alloc0, params1, pass1, pass0, agg, whole, sub, look-in, fmOf, WpFn-mono, owns, Is, pointee, RefT, sliceTy, sliceVal, MutSlice, ShrSlice, Room, slice-vals, mut-slice-tells, shr-slice-tells, uint-makes, uint-vals, uint-tells, u8, usize, owned, nothing, plain, onEntry, Meets, tripleOf, Triple, entered, cited, says, needs, Stays, stay-none, stay-slice, stay-none-slice, walkOf, goes-none, goes-slice, goes-none-slice, Walks, ends-at, walked, walk-meets, yes}
 use Rattle.walks.proofs.Branches.{empty, full, less-fits, unequal, not-unequal, tests}
-use Rattle.walks.proofs.Freed.{bare, held, released}
+use Rattle.walks.proofs.Freed.{bare, valued, released}
 use Rattle.walks.proofs.Lent.{lentAt, lend, regain, share}
 use Rattle.walks.proofs.Rest.{restOf, withRest, rest-long, lend-rest, regain-rest}
 use denote.Struct.Laws as LL
@@ -164,7 +164,7 @@ module _ {M : Type 1} (𝓤 : URA M) (H : Heap 𝓤) (A : Atoms 𝓤) (W : Given
             forget ! 28 refl $ forget ! 26 refl $ forget ! 24 refl $ forget ! 14 refl $ forget ! 12 refl $ forget ! 10 refl $ forget ! 8 refl $ forget ! 6 refl $ forget ! 4 refl $ again ! Nearer At (rest, (at, (outs, (fits-rest, (fits-at, (long-outs, (known))))))) (less, ((at + 3), ((withRest at outs moved), (fits-less, ((omega (arith, move-small work writing known more)), ((rest-long at outs moved same-moved ∙ long-outs), (row-on work writing known more slot-is link-is t-is z-is moved-is less-is))))))) (row-nearer work writing known more less-is))))))))))))
             (λ over. exec ! (𝓣 .C) (𝓣 .Λ) En this-mir.t-9 (atRet En Ends) $
             assigns ! (of-opd ! (load ! (from ! (stop !)) (look ! 30 refl))) (from ! (stop !)) (init ! 44 refl (tt, record { fits = fits-at })) $
-            returns-within ! Ends refl (look ! 44 refl) $ released ! (‵ (ShrSlice (named 0) κ-work Record-row.the-row .own (lentAt b-work o-work γ-work work) (s-work ∷ [])) ∷ ‵ (flft κ-work q-work) ∷ ‵ (MutSlice (named 1) κ-out u8 .own (lentAt b-out o-out γ-out outs) (s-out ∷ [])) ∷ ‵ (flft κ-out q-out) ∷ []) (held (tyInt w64) l0 (vint w64 at) ∷ held τ0 l1 (s-work) ∷ bare (tyInt w64) l2 ∷ held (tyInt w64) l3 (vint w64 i) ∷ held τ1 l4 (s-out) ∷ bare Record-laws.mir l5 ∷ held (tyInt w64) l6 (vint w64 rest) ∷ held (tyInt w64) l7 (vint w64 at) ∷ bare (tyInt w64) l8 ∷ bare (tyInt w16) l9 ∷ bare Record-laws.mir l10 ∷ bare tyUnit l11 ∷ bare τ2 l12 ∷ bare τ3 l13 ∷ bare (tyInt w8) l14 ∷ held tyBool l15 (vbool (not (eqb rest 0))) ∷ bare (tyInt w64) l16 ∷ bare tyUnit l17 ∷ bare tyPtr l18 ∷ bare τ2 l19 ∷ bare τ3 l20 ∷ []) $ by ! (exits at outs fits-at long-outs (row-ends work writing known over)))
+            returns-within ! Ends refl (look ! 44 refl) $ released ! (‵ (ShrSlice (named 0) κ-work Record-row.the-row .own (lentAt b-work o-work γ-work work) (s-work ∷ [])) ∷ ‵ (flft κ-work q-work) ∷ ‵ (MutSlice (named 1) κ-out u8 .own (lentAt b-out o-out γ-out outs) (s-out ∷ [])) ∷ ‵ (flft κ-out q-out) ∷ []) (valued (tyInt w64) l0 (vint w64 at) ∷ valued τ0 l1 (s-work) ∷ bare (tyInt w64) l2 ∷ valued (tyInt w64) l3 (vint w64 i) ∷ valued τ1 l4 (s-out) ∷ bare Record-laws.mir l5 ∷ valued (tyInt w64) l6 (vint w64 rest) ∷ valued (tyInt w64) l7 (vint w64 at) ∷ bare (tyInt w64) l8 ∷ bare (tyInt w16) l9 ∷ bare Record-laws.mir l10 ∷ bare tyUnit l11 ∷ bare τ2 l12 ∷ bare τ3 l13 ∷ bare (tyInt w8) l14 ∷ valued tyBool l15 (vbool (not (eqb rest 0))) ∷ bare (tyInt w64) l16 ∷ bare tyUnit l17 ∷ bare tyPtr l18 ∷ bare τ2 l19 ∷ bare τ3 l20 ∷ []) $ by ! (exits at outs fits-at long-outs (row-ends work writing known over)))
 
         turns : (t : State) → Sq W (At t) (runs (𝓣 .C) (𝓣 .Λ) En this-mir.turn-1 (anyQ (Turned t)))
         turns t = turn (t .0) (t .1 .0) (t .1 .1 .0) (t .1 .1 .1 .0) (t .1 .1 .1 .1 .0) (t .1 .1 .1 .1 .1 .0) (t .1 .1 .1 .1 .1 .1)

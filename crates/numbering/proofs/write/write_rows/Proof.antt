@@ -4,7 +4,7 @@
 -- Assumes nothing.
 use Rattle.walks.proofs.Logic.{_≡_, refl, _∙_, WellFounded, InvImage·wf, ℕ, _<_, _≤_, _^_, _+_, _-_, arith, List, [], _∷_, lit<, length, Nat·lt-wfRel, URA, fullShare, Ty, named, erased, imm, mut, w8, w16, w32, w64, tyPtr, tyInt, tyBool, tyRef, Val, vint, SProp, ent, Lft, Share, GName, ftrue, flft, Memory, Routine, afterTurn, Heap, Env, Out, Wp, WpFn, Tables, afterSeq, afterBlock, atReturn, Atoms, Fun, tablesOf, givenOf, tables, Given, Item, Sq, runs, anyQ, atRet, ‵, _⊛_, ⋆, _$_, _∵_, !, qed, by, move, keep, split, join, fsplit, fjoin, suffices, done, look, init, store, forget, stop, hop, fld, from, load, lit, addr, and-then, no-more, land, of-opd, bin, assigns, assigns-last, first, blocks, loops, again, Below, exec, returns-within, enter, alloc1, alloc0, params1, pass1, pass0, agg, whole, sub, look-in, fmOf, WpFn-mono, owns, Is, pointee, RefT, sliceTy, sliceVal, MutSlice, ShrSlice, Room, slice-vals, mut-slice-tells, shr-slice-tells, uint-makes, uint-vals, uint-tells, u8, u16, u32, usize, owned, nothing, plain, onEntry, Meets, tripleOf, Triple, entered, cited, says, needs, Stays, stay-none, stay-slice, stay-none-slice, walkOf, goes-none, goes-slice, goes-none-slice, Walks, ends-at, walked, walk-meets, yes}
 use Rattle.walks.proofs.Branches.{empty, full, less-fits, below, not-below, tests}
-use Rattle.walks.proofs.Freed.{bare, held, released}
+use Rattle.walks.proofs.Freed.{bare, valued, released}
 use Rattle.walks.proofs.Lent.{lentAt, share}
 use Rattle.walks.proofs.Rest.{restOf, withRest, rest-long, lend-rest, regain-rest}
 use Rattle.numbering.proofs.write.write_rows as this
@@ -101,7 +101,7 @@ module _ {M : Type 1} (𝓤 : URA M) (H : Heap 𝓤) (A : Atoms 𝓤) (W : Given
           calls-offset-of 𝓤 H A W mem run at (fmOf 𝓤 H (W .laws) 𝓣) known-offset-of fits-at (bytes-few work (writing .table) (known .measured))
           (and-then ! (load ! (from ! (stop !)) (look ! 21 refl)) (no-more !)) (λ answer fits-answer answer-is.
           land ! (from ! (stop !)) (init ! 32 refl (tt, record { fits = fits-answer })) $
-          returns-within ! Ends refl (look ! 32 refl) $ released ! (‵ (ShrSlice (named 0) κ-work Record-row.the-row .own (lentAt b-work o-work γ-work work) (s-work ∷ [])) ∷ ‵ (flft κ-work q-work) ∷ ‵ (MutSlice (named 1) κ-out u8 .own (lentAt b-out o-out γ-out outs) (s-out ∷ [])) ∷ ‵ (flft κ-out q-out) ∷ []) (held (tyInt w32) l0 (vint w32 answer) ∷ bare τ0 l1 ∷ bare (tyInt w64) l2 ∷ bare (tyInt w16) l3 ∷ bare τ1 l4 ∷ bare (tyInt w64) l5 ∷ held (tyInt w64) l6 (vint w64 at) ∷ bare (tyInt w64) l7 ∷ bare (tyInt w64) l8 ∷ bare tyBool l9 ∷ bare (tyInt w64) l10 ∷ bare tyPtr l11 ∷ bare (tyInt w64) l12 ∷ bare τ2 l13 ∷ bare τ3 l14 ∷ []) $ by ! (exits answer outs fits-answer long-outs (rows-written (writing .room) known (rows-done work (writing .table) over last-is) answer-is)))
+          returns-within ! Ends refl (look ! 32 refl) $ released ! (‵ (ShrSlice (named 0) κ-work Record-row.the-row .own (lentAt b-work o-work γ-work work) (s-work ∷ [])) ∷ ‵ (flft κ-work q-work) ∷ ‵ (MutSlice (named 1) κ-out u8 .own (lentAt b-out o-out γ-out outs) (s-out ∷ [])) ∷ ‵ (flft κ-out q-out) ∷ []) (valued (tyInt w32) l0 (vint w32 answer) ∷ bare τ0 l1 ∷ bare (tyInt w64) l2 ∷ bare (tyInt w16) l3 ∷ bare τ1 l4 ∷ bare (tyInt w64) l5 ∷ valued (tyInt w64) l6 (vint w64 at) ∷ bare (tyInt w64) l7 ∷ bare (tyInt w64) l8 ∷ bare tyBool l9 ∷ bare (tyInt w64) l10 ∷ bare tyPtr l11 ∷ bare (tyInt w64) l12 ∷ bare τ2 l13 ∷ bare τ3 l14 ∷ []) $ by ! (exits answer outs fits-answer long-outs (rows-written (writing .room) known (rows-done work (writing .table) over last-is) answer-is)))
 
       module _ (last : ℕ) (fits-last : last < 2 ^ 64) (last-is : last ≡ states) where
         abbrev head : ℕ → ℕ → (List ℕ) → List (Item 𝓤)

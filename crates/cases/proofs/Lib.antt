@@ -1,5 +1,0 @@
-pub mod Counts
-pub mod Gives
-pub mod Need
-pub mod Run
-pub mod calls
