@@ -24,7 +24,8 @@ use Rattle.keys.proofs.Keys.{Fits}
 use Rattle.table.specs.declared.Record.{Record}
 use Rattle.table.specs.Lists.{keysOf, linksOf}
 use Rattle.table.specs.States.{SearchedTable}
-use Rattle.reached.specs.Reached.{Searchable, countBy, Explored}
+use Rattle.reached.specs.Reached.{Searchable, Explored}
+use Rattle.lists.specs.Known.{countBy}
 use Rattle.connect.specs.Answers.{answerOf, refusing, connectedFrom, Writes}
 use Rattle.connect.specs.Related.{relatedIn, relatedFrom}
 use Rattle.connect.specs.declared.Answer.{Answer}

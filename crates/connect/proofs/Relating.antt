@@ -23,9 +23,9 @@ use Rattle.table.specs.Records.{blank}
 use Rattle.table.specs.Lists.{keysOf, linksOf, marksOf, presentOf}
 use Rattle.table.specs.States.{SearchedTable}
 use Rattle.table.proofs.Lists.{marks-at, numbers-at}
-use Rattle.rounds.specs.Settled.{settledIn, SettledDone}
+use Rattle.lists.specs.Settled.{settledIn, SettledDone}
 use Rattle.rounds.specs.Work.{SettledWork}
-use Rattle.numbering.specs.Kept.{keptRows}
+use Rattle.lists.specs.Kept.{keptRows}
 use Rattle.numbering.specs.Table.{keptRowsAt, UnnumberedTable}
 use Rattle.connect.specs.Answers.{answerOf, counting, Writes}
 use Rattle.connect.specs.Related.{relatedIn, relatedFrom, emittedFrom}

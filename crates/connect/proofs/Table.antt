@@ -28,7 +28,7 @@ use Rattle.model.proofs.Renumber.{AllIn, Renumbering, settledNamed, settled-ren
 use Rattle.keys.specs.Keys.{keyOf, situationIn}
 use Rattle.keys.specs.Links.{nextIn}
 use Rattle.keys.proofs.Keys.{Fits, key-back}
-use Rattle.rounds.specs.Settled.{testIn, settledIn}
+use Rattle.lists.specs.Settled.{testIn, settledIn}
 use Rattle.connect.specs.Related.{relatedIn}
 
 -- ---- elements by their place

@@ -13,7 +13,7 @@ use Rattle.model.specs.Connect.{Outcome, counted, emitted}
 use Rattle.keys.specs.Links.{nextIn}
 use Rattle.table.specs.declared.Record.{Record}
 use Rattle.table.specs.Lists.{keysOf, linksOf}
-use Rattle.rounds.specs.Settled.{settledIn}
+use Rattle.lists.specs.Settled.{settledIn}
 use Rattle.numbering.specs.Table.{keptRowsAt}
 
 -- 12, "the start is removed", or 13 or acceptance: `related` of the model, for the situations that the lists hold

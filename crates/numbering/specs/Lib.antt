@@ -1,4 +1,2 @@
-pub mod Kept
-pub mod Numbered
 pub mod Table
 pub mod Writing

@@ -7,7 +7,7 @@ use Rattle.model.specs.Plan.{rowBytes}
 use Rattle.table.specs.declared.Record.{Record}
 use Rattle.table.specs.Lists.{numbersOf}
 use Rattle.table.specs.States.{SettledTable}
-use Rattle.numbering.specs.Numbered.{Numbers}
+use Rattle.lists.specs.Numbered.{Numbers}
 use Rattle.numbering.specs.Table.{statesAt, keptRowAt, NumberedTable}
 
 -- bytes of the plan to write: its states are numbered, and the bytes fit into what is lent

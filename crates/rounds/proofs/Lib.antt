@@ -1,3 +1,2 @@
-pub mod lists
 pub mod records
 pub mod calls

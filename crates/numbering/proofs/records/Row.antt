@@ -19,11 +19,11 @@ use Rattle.table.specs.Lists.{slotsOf, linksOf, presentOf, marksOf, numbersOf}
 use Rattle.table.proofs.Lists.{numbers-at}
 use Rattle.numbering.specs.Table.{statesAt, keptRowAt}
 use Rattle.numbering.specs.Writing.{RowToWrite}
-use Rattle.numbering.proofs.lists.Kept.{SettledLists, all-left}
-use Rattle.numbering.proofs.lists.Moves.{moveBy, state-below}
-use Rattle.numbering.proofs.lists.Counts.{moves-few}
-use Rattle.numbering.proofs.lists.Row as Row
-use Rattle.numbering.proofs.lists.Row.{WritingMoves, row-begun, row-written, row-next}
+use Rattle.lists.proofs.numbering.Kept.{SettledLists, all-left}
+use Rattle.lists.proofs.numbering.Moves.{moveBy, state-below}
+use Rattle.lists.proofs.numbering.Counts.{moves-few}
+use Rattle.lists.proofs.numbering.Row as Row
+use Rattle.lists.proofs.numbering.Row.{WritingMoves, row-begun, row-written, row-next}
 use Rattle.numbering.proofs.records.Held.{settled-lists, slots-held, link-held}
 
 -- the row of situation i on its way: `rest` of its slots are left, and the moves of those before them are written up to `at`

@@ -27,7 +27,7 @@ use Rattle.numbering.proofs.write.row_length_at.Symbol.{name as #number
 use Rattle.numbering.proofs.write.row_length_at.Met as row-length-at-thm
 use Rattle.numbering.specs.Table.{keptRowsAt}
 use Rattle.model.specs.Plan.{indexBytes}
-use Rattle.numbering.proofs.lists.Parts.{WritingIndex, entry-room, index-begun, index-next, index-place, index-within, index-written}
+use Rattle.lists.proofs.numbering.Parts.{WritingIndex, entry-room, index-begun, index-next, index-place, index-within, index-written}
 use Rattle.numbering.proofs.records.States.{more-few, next-row, next-state, plan-few, rows-done}
 use Rattle.numbering.specs.Writing.{ToWrite}
 use Rattle.table.proofs.Record as Record-row

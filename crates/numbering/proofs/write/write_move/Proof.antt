@@ -1,7 +1,7 @@
 -- `numbering::write::write_move` meets its contract: the move with the code of the slot.
 -- Assumes nothing.
 use borrow.Author.Needs.{needs}
-use Rattle.numbering.proofs.lists.Row.{move-written}
+use Rattle.lists.proofs.numbering.Row.{move-written}
 use Rattle.numbering.proofs.write.write_move.Statement.{statement}
 use Rattle.numbering.proofs.write.write_move.Tie as tie
 

@@ -32,7 +32,7 @@ use Rattle.numbering.proofs.calls.WriteOffsetOf.{calls-offset-of, offse
 use Rattle.numbering.proofs.write.offset_of.Symbol as offset-of-def
 use Rattle.numbering.proofs.write.offset_of.Symbol.{name as #numbering·write·offset-of}
 use Rattle.numbering.proofs.write.offset_of.Met as offset-of-thm
-use Rattle.numbering.proofs.lists.Parts.{WritingRows, rows-begun, rows-next, rows-within, rows-written}
+use Rattle.lists.proofs.numbering.Parts.{WritingRows, rows-begun, rows-next, rows-within, rows-written}
 use Rattle.numbering.proofs.records.States.{bytes-few, more-few, next-row, next-state, row-to-write, rows-done}
 use Rattle.table.proofs.Record as Record-row
 use Rattle.table.specs.declared.Record.{Record}

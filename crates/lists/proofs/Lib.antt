@@ -1,0 +1,3 @@
+pub mod search
+pub mod rounds
+pub mod numbering
