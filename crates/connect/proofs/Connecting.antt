@@ -2,8 +2,7 @@
 -- follows over them is what follows over the situations.
 -- Assumes nothing.
 use mathlib.Core.Path.{_≡_, refl, sym, ap, subst, subst⁻¹, _∙_}
-use mathlib.Core.List.{List, [], _∷_, List·Memᴰ, List·Memᴰ·head, List·Memᴰ·not-nil}
-use mathlib.Core.Logic.{_≢_}
+use mathlib.Core.List.{List, [], _∷_, List·Memᴰ, List·Memᴰ·not-nil}
 use Prim.Native.Nat.{ℕ, zero, suc, _≤_, _<_}
 use native.Mathlib.Omega.{arith}
 use lib.ListN.{length, getD, replicate}
@@ -26,6 +25,7 @@ use Rattle.table.specs.Lists.{keysOf, linksOf}
 use Rattle.table.specs.States.{SearchedTable}
 use Rattle.reached.specs.Reached.{Searchable, Explored}
 use Rattle.lists.specs.Known.{countBy}
+use Rattle.lists.proofs.search.Count.{count-none, count-some}
 use Rattle.connect.specs.Answers.{answerOf, refusing, connectedFrom, Writes}
 use Rattle.connect.specs.Related.{relatedIn, relatedFrom}
 use Rattle.connect.specs.declared.Answer.{Answer}
@@ -68,17 +68,6 @@ search-needs work old-sheet new-sheet rank e =
     record { old-sheet = old-sheet; new-sheet = new-sheet; rank = rank; few = omega arith; room = omega arith }
 
 -- ---- the outcome
-
--- 0 if something was left to do
-count-none : (todo : List Situation) (n : ℕ) → countBy todo n ≡ 0 → 0 < n → todo ≢ []
-unfolding countBy
-count-none [] n e h = λ _. omega arith
-count-none (s ∷ todo) n e h = λ z. List·Memᴰ·not-nil (subst (λ (l : List Situation). List·Memᴰ s l) z (List·Memᴰ·head refl))
-
-count-some : (todo : List Situation) (n : ℕ) → (countBy todo n ≡ 0 → ⊥) → (todo ≡ []) × (countBy todo n ≡ n)
-unfolding countBy
-count-some [] n h = (refl, refl)
-count-some (s ∷ todo) n h = absurd (h refl)
 
 module _ (k : ℕ) (old new : List ℕ) (limit count : ℕ) (ys ys′ : List Record) (explored : Explored old new k limit count ys ys′) where
   abbrev σ : Contract
