@@ -9,12 +9,11 @@ use lib.ListN.{length, getD, replicate}
 use Rattle.model.specs.Contract.{Contract}
 use Rattle.model.specs.Sheet.{plain, contractIn}
 use Rattle.model.specs.Situation.{Situation, start, alike, same, codes, next}
-use Rattle.model.specs.Search.{Reached, at-start, by-move, Search, searchFrom}
+use Rattle.model.specs.Search.{Reached, at-start, Search, searchFrom}
 use Rattle.model.specs.Connect.{Outcome, refused, related, found, connected, limitOf}
 use Rattle.model.proofs.Situation.{is-same}
 use Rattle.model.proofs.Search.{search-all}
-use Rattle.model.proofs.Weak.{is-reached, rank-reached}
-use Rattle.model.proofs.Moves.{InStates, next-within}
+use Rattle.model.proofs.Weak.{is-reached, rank-reached, reached-within}
 use Rattle.model.proofs.Sheet.{WellFormed}
 use Rattle.sheet.specs.Whole.{IsSheet}
 use Rattle.sheet.proofs.Whole.{sheet-formed}
@@ -34,12 +33,6 @@ use Rattle.connect.proofs.Table.{HoldsSearch, related-table}
 -- ---- reached situations fit their keys
 
 module _ (k : ℕ) (σ τ : Contract) (σ-formed : WellFormed σ) (τ-formed : WellFormed τ) (rank : k ≤ 3) where
-  reached-within : {s : Situation} → Reached codes (next (alike k) σ τ) start s → InStates σ τ s
-  unfolding start
-  reached-within {s} (at-start e) = subst⁻¹ (InStates σ τ) e (σ-formed .some-state, τ-formed .some-state)
-  reached-within (by-move {s = s} {t = t} code m e r) = next-within σ τ (σ-formed .closed) (τ-formed .closed) s (reached-within r)
-      (alike k) t code e
-
   alike-few : (i : ℕ) → getD (alike k) i 0 ≤ 3
   unfolding alike
   alike-few i = go 14 i
@@ -55,7 +48,7 @@ module _ (k : ℕ) (σ τ : Contract) (σ-formed : WellFormed σ) (τ-formed : W
       record {
         size = b .size;
         small = λ i. omega (arith, b .bounded i, alike-few i);
-        old-state = omega (arith, reached-within r .0, σ-formed .few-states);
+        old-state = omega (arith, reached-within (alike k) σ τ σ-formed τ-formed r .0, σ-formed .few-states);
       }
 
 -- ---- the limit

@@ -11,7 +11,7 @@ use lib.ListN.{length}
 use lib.Dec.{T, leb}
 use borrow.Author.Tests.{lt-ltb, leb-true}
 use Rattle.model.specs.Contract.{Contract, has}
-use Rattle.model.specs.Sheet.{Reading, good, refusal, Sheet, Refusal, plain, Both, readBoth, contractIn}
+use Rattle.model.specs.Sheet.{Reading, good, refusal, Refusal, plain, Both, readBoth, contractIn}
 use Rattle.model.specs.Situation.{Situation, start, alike, same, codes, next}
 use Rattle.model.specs.Test.{test}
 use Rattle.model.specs.Search.{searchFrom}

@@ -9,6 +9,7 @@ pub mod Situation
 pub mod Test
 pub mod Rank
 pub mod Weak
+pub mod Finite
 pub mod Sheet
 pub mod PlanRows
 pub mod PlanBytes
@@ -17,6 +18,7 @@ pub mod Bound
 pub mod Cases
 pub mod Client
 pub mod ClientCheck
+pub mod Attempts
 pub mod Run
 pub mod Refusals
 pub mod Connect

@@ -3,14 +3,15 @@
 -- Assumes nothing.
 use mathlib.Core.Path.{_≡_, refl, subst, subst⁻¹}
 use mathlib.Core.Bool.{Bool, true, false, _&&_, _||_, cond}
-use mathlib.Core.Logic.{_⊎_, inl, inr}
+use mathlib.Core.Logic.{_⊎_, inl, inr, ⊎-elim}
 use mathlib.Core.Option.{Option, none, some, Option·none-ne-some}
-use mathlib.Core.List.{List, [], _∷_, List·Memᴰ, List·Memᴰ·head, List·Memᴰ·tail, List·Memᴰ·cases-cons, List·Memᴰ·not-nil}
-use Prim.Native.Nat.{ℕ, zero, suc, _+_, _≤_, _<_}
+use mathlib.Core.List.{List, [], _∷_, map, List·Memᴰ, List·Memᴰ·head, List·Memᴰ·tail, List·Memᴰ·cases-cons, List·Memᴰ·not-nil, List·Memᴰ·append-cases, Memᴰ·append-left, Memᴰ·append-right, Memᴰ·map, Memᴰ·of-map}
+use Prim.Native.Nat.{ℕ, zero, suc, _+_, _*_, _≤_, _<_}
 use native.Mathlib.Omega.{arith}
-use lib.ListN.{length, getD}
+use native.Mathlib.Nat.{suc-mul, zero-mul}
+use lib.ListN.{length, getD, length-append, length-map}
 use lib.Dec.{T}
-use Rattle.model.specs.Lists.{any, all, keep}
+use Rattle.model.specs.Lists.{any, all, keep, combine}
 
 -- ---- tests
 
@@ -54,6 +55,15 @@ pub cond-no : {A : Type 0} (a : Bool) (x y : A) → (T a → ⊥) → cond a x y
 cond-no true x y t = absurd (t tt)
 cond-no false x y t = refl
 
+-- a test that is only asked where another passes
+pub if-elim : (a b : Bool) → T (cond a b true) → T a → T b
+if-elim true b t h = t
+if-elim false b t h = absurd h
+
+pub if-intro : (a b : Bool) → (T a → T b) → T (cond a b true)
+if-intro true b f = f tt
+if-intro false b f = tt
+
 -- ---- `any` and `all`
 
 module _ {A : Type 0} where
@@ -81,6 +91,14 @@ module _ {A : Type 0} where
   all-intro p [] h = tt
   all-intro p (y ∷ ys) h =
       and-of (p y) (all p ys) (h y (List·Memᴰ·head refl)) (all-intro p ys (λ x m. h x (List·Memᴰ·tail m)))
+
+  -- where not all pass, one fails
+  pub all-fails : (p : A → Bool) (l : List A) → (T (all p l) → ⊥) → (x : A) × List·Memᴰ x l × (T (p x) → ⊥)
+  unfolding all
+  all-fails p [] f = absurd (f tt)
+  all-fails p (y ∷ ys) f =
+      ⊎-elim (λ t. let w = all-fails p ys (λ u. f (and-of (p y) (all p ys) t u)) in (w .0, List·Memᴰ·tail (w .1), w .2))
+      (λ t. (y, List·Memᴰ·head refl, t)) (dec-T (p y))
 
   -- a step of `keep`, by its test
   keep-yes : (p : A → Bool) (y : A) (ys : List A) → T (p y) → keep p (y ∷ ys) ≡ y ∷ keep p ys
@@ -181,3 +199,27 @@ module _ {A : Type 0} where
   getD-mem [] i d h = absurd (omega arith)
   getD-mem (x ∷ l) zero d h = List·Memᴰ·head refl
   getD-mem (x ∷ l) (suc i) d h = List·Memᴰ·tail (getD-mem l i d (omega arith))
+
+-- ---- `combine`
+
+module _ {A B C : Type 0} (f : A → B → C) where
+  pub combine-intro : {x : A} {y : B} {xs : List A} {ys : List B} → List·Memᴰ x xs → List·Memᴰ y ys → List·Memᴰ (f x y) (combine f xs ys)
+  unfolding combine
+  combine-intro {y = y} {ys = ys} (List·Memᴰ·head {x = x} {xs = xs} e) q =
+      Memᴰ·append-left (combine f xs ys) (subst⁻¹ (λ (z : A). List·Memᴰ (f z y) (map (f x) ys)) e (Memᴰ·map (f x) q))
+  combine-intro {ys = ys} (List·Memᴰ·tail {x = x} p) q = Memᴰ·append-right (map (f x) ys) (combine-intro p q)
+
+  pub combine-elim : (z : C) (xs : List A) (ys : List B) → List·Memᴰ z (combine f xs ys)
+      → (x : A) × (y : B) × List·Memᴰ x xs × List·Memᴰ y ys × (f x y ≡ z)
+  unfolding combine
+  combine-elim z [] ys q = absurd (List·Memᴰ·not-nil q)
+  combine-elim z (x ∷ xs) ys q =
+      ⊎-elim (λ m. let w = Memᴰ·of-map (f x) ys m in (x, w .0, List·Memᴰ·head refl, w .1, w .2))
+      (λ m. let w = combine-elim z xs ys m in (w .0, w .1, List·Memᴰ·tail (w .2), w .3, w .4))
+      (List·Memᴰ·append-cases (map (f x) ys) q)
+
+  pub combine-length : (xs : List A) (ys : List B) → length (combine f xs ys) ≡ length xs * length ys
+  unfolding combine
+  combine-length [] ys = omega (arith, zero-mul (length ys))
+  combine-length (x ∷ xs) ys =
+      omega (arith, length-append (map (f x) ys) (combine f xs ys), length-map ys (f x), combine-length xs ys, suc-mul (length xs) (length ys))

@@ -6,7 +6,7 @@ use mathlib.Core.List.{List, [], _∷_}
 use Prim.Native.Nat.{ℕ, zero, suc, _+_, _*_, _/_, _%_, _^_, _<_}
 use native.Mathlib.Omega.{arith}
 use native.Mathlib.Nat.{pow-suc, zero-div, zero-mod}
-use lib.Dec.{eqb}
+use lib.Dec.{T, eqb}
 use lib.Arith.{mod-mul}
 use lib.Bits.{bitAnd}
 use lib.Pow.{pow-pos, shr-shr}
@@ -58,9 +58,28 @@ pub has-suc : (a j : ℕ) → has a (suc j) ≡ has (a / 2) j
 unfolding has
 has-suc a j = let e : 1 + j ≡ suc j = omega arith in rw (← e, ← shr-shr a 1 j)
 
-has-none : (j : ℕ) → has 0 j ≡ false
+pub has-none : (j : ℕ) → has 0 j ≡ false
 unfolding has
 has-none j = rw (zero-div (2 ^ j))
+
+-- a power of two has one bit
+half-power : (i : ℕ) → 2 ^ suc i / 2 ≡ 2 ^ i
+half-power i = omega (arith, pow-suc 2 i)
+
+even-power : (i : ℕ) → 2 ^ suc i % 2 ≡ 0
+even-power i = omega (arith, pow-suc 2 i)
+
+pub has-power : (i : ℕ) → T (has (2 ^ i) i)
+has-power zero = rw (has-zero 1) tt
+has-power (suc i) = rw (has-suc (2 ^ suc i) i, half-power i) (has-power i)
+
+pub power-has : (i j : ℕ) → T (has (2 ^ i) j) → j ≡ i
+power-has zero zero t = refl
+power-has zero (suc j) t = absurd (rw (has-suc 1 j, has-none j) at t)
+power-has (suc i) zero t =
+    let u : T (eqb 0 1) = rw (has-zero (2 ^ suc i), even-power i) at t in
+    absurd u
+power-has (suc i) (suc j) t = ap suc (power-has i j (rw (has-suc (2 ^ suc i) j, half-power i) at t))
 
 low-step : (n a : ℕ) → a % 2 ^ suc n ≡ (a / 2 % 2 ^ n) * 2 + a % 2
 low-step n a = ap (λ (m : ℕ). a % m) (pow-suc 2 n) ∙ mod-mul a (pow-pos n) (omega arith)

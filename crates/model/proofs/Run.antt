@@ -3,7 +3,7 @@
 -- row use up what is left for them.
 -- Assumes nothing.
 use mathlib.Core.Path.{_≡_, refl, sym, ap, subst, subst⁻¹, _∙_}
-use mathlib.Core.Bool.{Bool, true, false, _&&_}
+use mathlib.Core.Bool.{Bool, true, false}
 use mathlib.Core.Logic.{⊎-elim}
 use mathlib.Core.Option.{Option, none, some, Option·some-injective}
 use mathlib.Core.List.{List, [], _∷_, List·Memᴰ}
@@ -12,19 +12,19 @@ use native.Mathlib.Omega.{arith}
 use lib.ListN.{getElem?}
 use lib.Dec.{T}
 use Rattle.model.specs.Contract.{Contract, partner, has, state, offers, after, name}
-use Rattle.model.specs.Situation.{Situation, Kind, straight, client, service, stray, kindOf, start, same, codes, offered, oldAfter, newAfter, next}
-use Rattle.model.specs.Test.{listed}
+use Rattle.model.specs.Situation.{Situation, Kind, straight, client, service, kindOf, start, same, codes, offered, oldAfter, newAfter, next}
 use Rattle.model.specs.Plan.{Move, held, planStates, rowOf, planRows}
 use Rattle.model.specs.Client.{Meet, met-first, met-on, Complies}
-use Rattle.model.specs.Run.{Run, begin, Attempt, need, isAlone, ifMove, longest, rowAtRun, choice, moveTo, moved, movedIf, attempted, runFrom, alonesFrom, mostAlone, Standstill}
+use Rattle.model.specs.Run.{Run, begin, Attempt, need, isAlone, ifMove, longest, rowAtRun, moveTo, moved, movedIf, attempted, runFrom, alonesFrom, mostAlone, Standstill}
 use Rattle.model.specs.Weak.{Rank}
-use Rattle.model.proofs.Lists.{and-both, and-of, cond-some}
+use Rattle.model.proofs.Lists.{and-both, and-of}
 use Rattle.model.proofs.Rounds.{Step, Closed, moves-intro}
 use Rattle.model.proofs.Situation.{is-same, code-elim, kind-straight, kind-client, kind-service, next-elim}
-use Rattle.model.proofs.Test.{listed-elim, PassesAt}
+use Rattle.model.proofs.Test.{PassesAt}
 use Rattle.model.proofs.Weak.{offers-of}
 use Rattle.model.proofs.Bound.{left, allowed, left-allowed, left-less}
 use Rattle.model.proofs.PlanRows.{row-elim, row-intro, row-at, at-mem, state-kept, start-first}
+use Rattle.model.proofs.Attempts.{choice-elim, IsMove, is-move, moved-plan}
 
 module _ (limits : List ℕ) (user old new : Contract) (kept : List Situation) (begun : List·Memᴰ start kept) where
   abbrev nx : Situation → ℕ → Option Situation
@@ -50,13 +50,6 @@ module _ (limits : List ℕ) (user old new : Contract) (kept : List Situation) (
   unfolding start begin
   tied-begin =
       record { at = start; here = start-first same is-same codes nx kept start begun; service = refl; meets = met-first refl refl }
-
-  pub choice-elim : (r : Run) (R S : ℕ) → T (choice user new rows r R S)
-      → List·Memᴰ R (state user (r .client) .ready) × List·Memᴰ S (state new (r .service) .ready)
-  unfolding choice
-  choice-elim r R S t =
-      let w = and-both (listed (state user (r .client) .ready) R) (listed (state new (r .service) .ready) S) t in
-      (listed-elim (state user (r .client) .ready) R (w .0), listed-elim (state new (r .service) .ready) S (w .1))
 
   -- ---- a move keeps the tie
 
@@ -127,23 +120,10 @@ module _ (limits : List ℕ) (user old new : Contract) (kept : List Situation) (
       row-elim same is-same codes nx kept start begun (d .at) c to (at-mem states (r .plan) (d .at) (d .here))
       (subst (λ (m : List Move). held m c ≡ some to) (row-tied r d) e)
 
-  -- a move is by a choice, its need is met, and the row holds it
-  pub record IsMove (r : Run) (a : Attempt) (to : ℕ) : Type 0 where
-    pub chosen : T (choice user new rows r (a .R) (a .S))
-    pub needed : T (need (a .R) (a .S) (kindOf (a .code)))
-    pub holds : held (rowAtRun user new rows r) (a .code) ≡ some to
-
-  is-move : (r : Run) (a : Attempt) (to : ℕ) → moveTo user new rows r a ≡ some to → IsMove r a to
-  unfolding moveTo
-  is-move r a to e =
-      let w = cond-some (choice user new rows r (a .R) (a .S) && need (a .R) (a .S) (kindOf (a .code))) (held (rowAtRun user new rows r) (a .code)) to e in
-      let v = and-both (choice user new rows r (a .R) (a .S)) (need (a .R) (a .S) (kindOf (a .code))) (w .0) in
-      record { chosen = v .0; needed = v .1; holds = w .1 }
-
-  tied-moved : (r : Run) (a : Attempt) (to : ℕ) → Tied r → IsMove r a to → Tied (moved user new rows r (kindOf (a .code)) to)
+  tied-moved : (r : Run) (a : Attempt) (to : ℕ) → Tied r → IsMove user new rows r a to → Tied (moved user new rows r (kindOf (a .code)) to)
   tied-moved r a to d m =
       let w = held-move r d (a .code) to (m .holds) in
-      tied-code r (a .R) (a .S) to d (choice-elim r (a .R) (a .S) (m .chosen) .0) (w .1 .0) (w .1 .3) (a .code) (w .0) (m .needed) (w .1 .1)
+      tied-code r (a .R) (a .S) to d (choice-elim user new rows r (a .R) (a .S) (m .chosen) .0) (w .1 .0) (w .1 .3) (a .code) (w .0) (m .needed) (w .1 .1)
 
   pub tied-attempted : (r : Run) (a : Attempt) → Tied r → Tied (attempted user new rows r a)
   unfolding attempted movedIf
@@ -151,7 +131,7 @@ module _ (limits : List ℕ) (user old new : Contract) (kept : List Situation) (
     where
       go : (o : Option ℕ) → moveTo user new rows r a ≡ o → Tied (movedIf user new rows r (kindOf (a .code)) o)
       go none e = d
-      go (some to) e = tied-moved r a to d (is-move r a to e)
+      go (some to) e = tied-moved r a to d (is-move user new rows r a to e)
 
   pub tied-run : (attempts : List Attempt) (r : Run) → Tied r → Tied (runFrom user new rows r attempts)
   unfolding runFrom
@@ -165,14 +145,14 @@ module _ (limits : List ℕ) (user old new : Contract) (kept : List Situation) (
     unfolding need
     no-standstill r d R S z =
         ⊎-elim
-        (λ x. complies (r .client) (d .at .old) (d .meets) R (x .0) (choice-elim r R S (z .chosen) .0) (x .1)
+        (λ x. complies (r .client) (d .at .old) (d .meets) R (x .0) (choice-elim user new rows r R S (z .chosen) .0) (x .1)
         (λ j h a b.
         ⊎-elim
         (λ y. cannot (16 + j) (client j) (kind-client j h) y b)
         (λ y. cannot j (straight j) (kind-straight j h) (y .1) (and-of (has S j) (has R (partner j)) (y .0) b))
         (x .2 j h a)))
         (λ x. absurd (cannot (32 + x .0) (service (x .0)) (kind-service (x .0) (x .1)) (x .3) (x .2)))
-        (st .passes S (subst⁻¹ (λ (q : ℕ). List·Memᴰ S (state new q .ready)) (d .service) (choice-elim r R S (z .chosen) .1)))
+        (st .passes S (subst⁻¹ (λ (q : ℕ). List·Memᴰ S (state new q .ready)) (d .service) (choice-elim user new rows r R S (z .chosen) .1)))
       where
         st : Step codes nx (PassesAt old new) (λ (s : Situation). List·Memᴰ s kept) (d .at)
         st = closed (d .at) (state-kept same is-same codes nx kept start begun (d .at) (at-mem states (r .plan) (d .at) (d .here)))
@@ -185,13 +165,6 @@ module _ (limits : List ℕ) (user old new : Contract) (kept : List Situation) (
             z .stuck c (w .0) (subst⁻¹ (λ (m : List Move). held m c ≡ some (w .0)) (row-tied r d) (w .1)) (subst⁻¹ (λ (k : Kind). T (need R S k)) e n)
 
   -- ---- how many service-alone moves come in a row
-
-  moved-plan : (r : Run) (kind : Kind) (R S to : ℕ) → T (need R S kind) → moved user new rows r kind to .plan ≡ to
-  unfolding moved need
-  moved-plan r (straight j) R S to n = refl
-  moved-plan r (client j) R S to n = refl
-  moved-plan r (service j) R S to n = refl
-  moved-plan r stray R S to n = absurd n
 
   module _ (n : ℕ) (few : n ≤ 7) (ranked : (s : Situation) → List·Memᴰ s kept → Rank limits (s .buffer))
       (named : (q j : ℕ) → j < 14 → T (offers (state new q) j) → name j < n) where
@@ -216,12 +189,12 @@ module _ (limits : List ℕ) (user old new : Contract) (kept : List Situation) (
         subst (λ (t : Situation). left n limits (s .buffer) ≡ suc (left n limits (t .buffer))) (b .2)
         (left-less n limits (s .buffer) few j (b .0) h (named (s .new) j h (x .0)) r (b .1)))
 
-    uses-run : (r : Run) (d : Tied r) (a : Attempt) (to : ℕ) (d′ : Tied (moved user new rows r (kindOf (a .code)) to)) → IsMove r a to
+    uses-run : (r : Run) (d : Tied r) (a : Attempt) (to : ℕ) (d′ : Tied (moved user new rows r (kindOf (a .code)) to)) → IsMove user new rows r a to
         → T (isAlone (kindOf (a .code))) → leftAt d ≡ suc (leftAt d′)
     uses-run r d a to d′ m l =
         let w = held-move r d (a .code) to (m .holds) in
         let t = w .1 .0 in
-        let plan = moved-plan r (kindOf (a .code)) (a .R) (a .S) to (m .needed) in
+        let plan = moved-plan user new rows r (kindOf (a .code)) (a .R) (a .S) to (m .needed) in
         let q : t ≡ d′ .at = Option·some-injective t (d′ .at) (sym (w .1 .3) ∙ ap (getElem? states) (sym plan) ∙ d′ .here) in
         subst (λ (t : Situation). leftAt d ≡ suc (left n limits (t .buffer))) q (uses (d .at) t (a .code) (w .0) l (rank-tied r d) (w .1 .1))
 
@@ -237,11 +210,11 @@ module _ (limits : List ℕ) (user old new : Contract) (kept : List Situation) (
             → longest before (ifMove o b (alonesFrom user new rows (movedIf user new rows r (kindOf (a .code)) o) attempts)) ≤ allowed n limits
         go none b e f ih = ih r d before h
         go (some to) true e f ih =
-            let m = is-move r a to e in
+            let m = is-move user new rows r a to e in
             let d′ = tied-moved r a to d m in
             ih (moved user new rows r (kindOf (a .code)) to) d′ (suc before) (omega (arith, uses-run r d a to d′ m (rw f tt)))
         go (some to) false e f ih =
-            let d′ = tied-moved r a to d (is-move r a to e) in
+            let d′ = tied-moved r a to d (is-move user new rows r a to e) in
             let z : longest 0 (alonesFrom user new rows (moved user new rows r (kindOf (a .code)) to) attempts) ≤ allowed n limits =
             ih (moved user new rows r (kindOf (a .code)) to) d′ 0 (omega (arith, left-allowed n limits (d′ .at .buffer) (rank-tied _ d′))) in
             omega arith

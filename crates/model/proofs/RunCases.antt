@@ -8,6 +8,7 @@ use mathlib.Core.List.{List, map, List·Memᴰ}
 use Prim.Native.Nat.{ℕ, _*_, _≤_}
 use lib.ListN.{replicate}
 use lib.Dec.{T}
+use Rattle.model.specs.Lists.{combine}
 use Rattle.model.specs.Contract.{Contract, has}
 use Rattle.model.specs.Sheet.{good, readSheet, sheetOf, contractIn}
 use Rattle.model.specs.Plan.{Move, held, readMoves, namedBelow, ascending, goodRow, readRows, readWith, readPlan, rowsOf, rowsIn}
@@ -39,7 +40,7 @@ aloneOf c attempts = mostAlone (user c) (service c) (rows c) attempts
 
 -- what the definitions say of a row of the list
 unfoldable pub computedRun : RunCase → RunFigures
-unfolding connectCase sheetOf contractIn held readMoves namedBelow ascending goodRow readRows readWith readPlan rowsOf rowsIn samePair firstPair agree meetOn pairs agreeAt complies compliesIn compliesOf begin need isAlone ifMove longest rowAtRun choice moveTo moved movedIf attempted runFrom alonesFrom mostAlone choicesOf noneMade standstillsOf
+unfolding combine connectCase sheetOf contractIn held readMoves namedBelow ascending goodRow readRows readWith readPlan rowsOf rowsIn samePair firstPair agree meetOn pairs agreeAt complies compliesIn compliesOf begin need isAlone ifMove longest rowAtRun choice moveTo moved movedIf attempted runFrom alonesFrom mostAlone choicesOf noneMade standstillsOf
 computedRun c =
     record {
       complies = compliesOf (c .client) (c .old) .yes;

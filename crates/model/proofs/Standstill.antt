@@ -3,20 +3,19 @@
 -- Assumes nothing.
 use mathlib.Core.Path.{_≡_, refl, sym, ap, subst, subst⁻¹}
 use mathlib.Core.Bool.{Bool, true, false, cond, not}
-use mathlib.Core.Logic.{⊎-elim, _↔_}
+use mathlib.Core.Logic.{_↔_}
 use mathlib.Core.Option.{some, Option·none-ne-some}
-use mathlib.Core.List.{List, [], _∷_, _++_, map, List·Memᴰ, List·Memᴰ·head, List·Memᴰ·tail, List·Memᴰ·not-nil, List·Memᴰ·append-cases, Memᴰ·append-left, Memᴰ·append-right, Memᴰ·map, Memᴰ·of-map, Memᴰ·cast}
+use mathlib.Core.List.{List, [], _∷_, List·Memᴰ, List·Memᴰ·head, List·Memᴰ·tail, Memᴰ·cast}
 use Prim.Native.Nat.{ℕ}
 use lib.Dec.{T, eqb, eqb→eq, eqb-refl}
-use Rattle.model.specs.Lists.{all, keep}
+use Rattle.model.specs.Lists.{all, keep, combine}
 use Rattle.model.specs.Contract.{Contract, state}
 use Rattle.model.specs.Situation.{kindOf}
-use Rattle.model.specs.Test.{listed}
 use Rattle.model.specs.Plan.{Move, held}
-use Rattle.model.specs.Run.{Run, need, rowAtRun, choice, Standstill}
+use Rattle.model.specs.Run.{Run, need, rowAtRun, Standstill}
 use Rattle.model.specs.RunCases.{Choice}
-use Rattle.model.proofs.Lists.{and-both, and-of, all-elim, all-intro, keep-intro, keep-elim}
-use Rattle.model.proofs.Test.{listed-intro, listed-elim}
+use Rattle.model.proofs.Lists.{all-elim, all-intro, keep-intro, keep-elim, combine-intro, combine-elim}
+use Rattle.model.proofs.Attempts.{choice-intro, choice-elim}
 
 -- ---- tests
 
@@ -57,27 +56,17 @@ code-held (l ∷ row) m (List·Memᴰ·tail d) = go (eqb (l .code) (m .code)) (c
 
 -- each R with each S
 unfoldable pub choicesOf : List ℕ → List ℕ → List Choice
-choicesOf [] sets = []
-choicesOf (R ∷ others) sets = map (λ S. record { R = R; S = S }) sets ++ choicesOf others sets
+choicesOf = combine (λ R S. record { R = R; S = S })
 
 choices-intro : {R S : ℕ} {ours theirs : List ℕ} → List·Memᴰ R ours → List·Memᴰ S theirs → List·Memᴰ (record { R = R; S = S }) (choicesOf ours theirs)
 unfolding choicesOf
-choices-intro {R} {S} {theirs = theirs} (List·Memᴰ·head {x = x} {xs = xs} e) s =
-    Memᴰ·append-left (choicesOf xs theirs)
-    (Memᴰ·cast {b = record { R = x; S = S }} (ap (λ (x : ℕ). record { R = x; S = S }) e) (Memᴰ·map {B = Choice} (λ (S : ℕ). record { R = x; S = S }) s))
-choices-intro {theirs = theirs} (List·Memᴰ·tail {x = x} r) s =
-    Memᴰ·append-right (map (λ (S : ℕ). record { R = x; S = S }) theirs) (choices-intro r s)
+choices-intro r s = combine-intro (λ R S. record { R = R; S = S }) r s
 
 choices-elim : (c : Choice) (ours theirs : List ℕ) → List·Memᴰ c (choicesOf ours theirs) → List·Memᴰ (c .R) ours × List·Memᴰ (c .S) theirs
 unfolding choicesOf
-choices-elim c [] theirs m = absurd (List·Memᴰ·not-nil m)
-choices-elim c (R ∷ ours) theirs m =
-    ⊎-elim
-    (λ d.
-    let w = Memᴰ·of-map (λ (S : ℕ). record { R = R; S = S }) theirs d in
-    (List·Memᴰ·head (ap (λ (x : Choice). x .R) (sym (w .2))), Memᴰ·cast (ap (λ (x : Choice). x .S) (sym (w .2))) (w .1)))
-    (λ d. let w = choices-elim c ours theirs d in (List·Memᴰ·tail (w .0), w .1))
-    (List·Memᴰ·append-cases (map (λ (S : ℕ). record { R = R; S = S }) theirs) m)
+choices-elim c ours theirs m =
+    let w = combine-elim (λ R S. record { R = R; S = S }) c ours theirs m in
+    (Memᴰ·cast (ap (λ (x : Choice). x .R) (sym (w .4))) (w .2), Memᴰ·cast (ap (λ (x : Choice). x .S) (sym (w .4))) (w .3))
 
 -- ---- standstills
 
@@ -109,18 +98,16 @@ module _ (user new : Contract) (rows : List (List Move)) (r : Run) where
       (subst⁻¹ (λ (c : ℕ). T (need R S (kindOf c))) (w .2) n)
 
   pub standstill-decided : (R S : ℕ) → Standstill user new rows r R S ↔ List·Memᴰ (record { R = R; S = S }) standstillsOf
-  unfolding standstillsOf choice
+  unfolding standstillsOf
   standstill-decided R S = (
     λ z.
-        let w = and-both (listed (state user (r .client) .ready) R) (listed (state new (r .service) .ready) S) (z .chosen) in
-        keep-intro (noneMade (rowAtRun user new rows r))
-        (choices-intro (listed-elim (state user (r .client) .ready) R (w .0)) (listed-elim (state new (r .service) .ready) S (w .1)))
-        (stuck-test R S (z .stuck)),
+        let w = choice-elim user new rows r R S (z .chosen) in
+        keep-intro (noneMade (rowAtRun user new rows r)) (choices-intro (w .0) (w .1)) (stuck-test R S (z .stuck)),
     λ m.
         let d = keep-elim (noneMade (rowAtRun user new rows r)) (record { R = R; S = S }) (choicesOf (state user (r .client) .ready) (state new (r .service) .ready)) m in
         let w = choices-elim (record { R = R; S = S }) (state user (r .client) .ready) (state new (r .service) .ready) (d .0) in
         record {
-          chosen = and-of (listed (state user (r .client) .ready) R) (listed (state new (r .service) .ready) S) (listed-intro (w .0)) (listed-intro (w .1));
+          chosen = choice-intro user new rows r R S (w .0) (w .1);
           stuck = test-stuck R S (d .1);
         },
   )

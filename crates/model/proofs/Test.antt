@@ -1,6 +1,6 @@
 -- The test of a situation computes condition (1) of definition 3.7 of Padovani 2010, which grows with the set of actions.
 -- Assumes nothing.
-use mathlib.Core.Bool.{Bool, true, false, cond, _&&_}
+use mathlib.Core.Bool.{true, cond, _&&_}
 use mathlib.Core.Logic.{_⊎_, inl, inr, ⊎-elim}
 use mathlib.Core.List.{List, List·Memᴰ, Memᴰ·cast}
 use Prim.Native.Nat.{ℕ, _+_}
@@ -10,7 +10,7 @@ use Rattle.model.specs.Contract.{Contract, State, actions, has, state}
 use Rattle.model.specs.Situation.{Situation}
 use Rattle.model.specs.Test.{listed, covered, covers, hope, answered, test}
 use Rattle.model.specs.Weak.{Perceived, Covered, Hope, Passes}
-use Rattle.model.proofs.Lists.{any-intro, any-elim, all-intro, all-elim, and-both, and-of, or-cases, or-left, or-right}
+use Rattle.model.proofs.Lists.{any-intro, any-elim, all-intro, all-elim, and-both, and-of, or-cases, or-left, or-right, if-elim, if-intro}
 use Rattle.model.proofs.Actions.{action, action-below}
 use Rattle.model.proofs.Rounds.{IsTest}
 
@@ -29,19 +29,11 @@ covered-elim A S j t =
     (λ q. let w = and-both (has S j) (listed A j) q in inr (w .0, listed-elim A j (w .1)))
     (or-cases (listed A (16 + j)) (has S j && listed A j) t)
 
-covered-intro : (A : List ℕ) (S j : ℕ) → Perceived (λ c. List·Memᴰ c A) S j → T (covered A S j)
+pub covered-intro : (A : List ℕ) (S j : ℕ) → Perceived (λ c. List·Memᴰ c A) S j → T (covered A S j)
 unfolding covered
 covered-intro A S j (inl m) = or-left (listed A (16 + j)) (has S j && listed A j) (listed-intro m)
 covered-intro A S j (inr m) =
     or-right (listed A (16 + j)) (has S j && listed A j) (and-of (has S j) (listed A j) (m .0) (listed-intro (m .1)))
-
-if-elim : (a b : Bool) → T (cond a b true) → T a → T b
-if-elim true b t h = t
-if-elim false b t h = absurd h
-
-if-intro : (a b : Bool) → (T a → T b) → T (cond a b true)
-if-intro true b f = f tt
-if-intro false b f = tt
 
 covers-elim : (A : List ℕ) (S R : ℕ) → T (covers A S R) → Covered (λ c. List·Memᴰ c A) S R
 unfolding covers
@@ -54,14 +46,14 @@ covers-intro A S R f =
     all-intro (λ j. cond (has R j) (covered A S j) true) actions
     (λ j m. if-intro (has R j) (covered A S j) (λ r. covered-intro A S j (f j (action-below j m) r)))
 
-hope-elim : (A : List ℕ) (S : ℕ) → T (hope A S) → Hope (λ c. List·Memᴰ c A) S
+pub hope-elim : (A : List ℕ) (S : ℕ) → T (hope A S) → Hope (λ c. List·Memᴰ c A) S
 unfolding hope
 hope-elim A S t =
     let w = any-elim (λ j. has S j && listed A (32 + j)) actions t in
     let v = and-both (has S (w .0)) (listed A (32 + w .0)) (w .2) in
     (w .0, action-below (w .0) (w .1), v .0, listed-elim A (32 + w .0) (v .1))
 
-hope-intro : (A : List ℕ) (S : ℕ) → Hope (λ c. List·Memᴰ c A) S → T (hope A S)
+pub hope-intro : (A : List ℕ) (S : ℕ) → Hope (λ c. List·Memᴰ c A) S → T (hope A S)
 unfolding hope
 hope-intro A S w =
     any-intro (λ j. has S j && listed A (32 + j)) (action (w .0) (w .1))

@@ -19,7 +19,8 @@ use Rattle.model.proofs.Rounds.{Step, Closed, settled-closed, settled-l
 use Rattle.model.proofs.Search.{search-inv, search-all}
 use Rattle.model.proofs.Situation.{is-same, code-straight, code-client, code-service, code-elim, kind-straight, kind-client, kind-service, behind, next-elim, next-intro}
 use Rattle.model.proofs.Test.{PassesAt, is-test}
-use Rattle.model.proofs.Moves.{rank-kept}
+use Rattle.model.proofs.Moves.{rank-kept, InStates, next-within}
+use Rattle.model.proofs.Sheet.{WellFormed}
 use Rattle.model.proofs.Rank.{rank-start, client-rank, client-back, service-rank, service-back}
 
 -- a state offers what its ready sets have
@@ -166,6 +167,13 @@ module _ (limits : List ℕ) (old new : Contract) where
   pub rank-reached : {s : Situation} → Reached codes nx start s → Rank limits (s .buffer)
   rank-reached (at-start e) = subst⁻¹ (λ (t : Situation). Rank limits (t .buffer)) e (rank-start limits)
   rank-reached (by-move {s = s} {t = t} c m q r) = rank-next s t c m q (rank-reached r)
+
+  -- ---- and within the states
+
+  pub reached-within : WellFormed old → WellFormed new → {s : Situation} → Reached codes nx start s → InStates old new s
+  unfolding start
+  reached-within f g (at-start e) = subst⁻¹ (InStates old new) e (f .some-state, g .some-state)
+  reached-within f g (by-move {s = s} {t = t} c m q r) = next-within old new (f .closed) (g .closed) s (reached-within f g r) limits t c q
 
   -- ---- what the rounds keep of a whole search
 

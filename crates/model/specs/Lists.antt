@@ -1,7 +1,7 @@
 -- Functions on lists that compute, by tests with the answers true and false.
 -- Assumes nothing.
 use mathlib.Core.Bool.{Bool, true, false, _&&_, _||_, cond}
-use mathlib.Core.List.{List, [], _∷_, List·Memᴰ}
+use mathlib.Core.List.{List, [], _∷_, _++_, map, List·Memᴰ}
 use Prim.Native.Nat.{ℕ, zero, suc}
 
 module _ {A : Type 0} where
@@ -31,6 +31,11 @@ module _ {A : Type 0} where
   abbrev pub Distinct : List A → Type 0
   Distinct [] = Unit {0}
   Distinct (x ∷ xs) = (List·Memᴰ x xs → ⊥) × Distinct xs
+
+-- a function of each element of one list with each of another
+unfoldable pub combine : {A B C : Type 0} → (A → B → C) → List A → List B → List C
+combine f [] ys = []
+combine f (x ∷ xs) ys = map (f x) ys ++ combine f xs ys
 
 -- `count` numbers from `first` on, ascending
 unfoldable pub upto : ℕ → ℕ → List ℕ
