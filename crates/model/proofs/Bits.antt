@@ -2,11 +2,13 @@
 -- Assumes nothing.
 use mathlib.Core.Path.{_≡_, refl, ap, _∙_}
 use mathlib.Core.Bool.{_&&_, _||_}
+use mathlib.Core.Logic.{_⊎_}
 use Prim.Native.Nat.{ℕ, zero, suc, _/_, _%_, _^_, _<_, min, max}
 use native.Mathlib.Omega.{arith}
-use lib.Dec.{eqb}
+use lib.Dec.{T, eqb}
 use lib.Bits.{bitAnd, bitOr, and-shr, or-shr, and-step, or-step}
 use Rattle.model.specs.Contract.{has}
+use Rattle.model.proofs.Lists.{or-cases, or-left, or-right}
 
 -- two bits, both or one of which are set
 both-bits : (u v : ℕ) → u < 2 → v < 2 → eqb (min u v) 1 ≡ (eqb u 1 && eqb v 1)
@@ -42,3 +44,12 @@ has-or a b j =
     let y = b / 2 ^ j in
     let e : bitOr a b / 2 ^ j % 2 ≡ max (x % 2) (y % 2) = omega (arith, or-shr a b j, or-step x y) in
     ap (λ (u : ℕ). eqb u 1) e ∙ one-bit (x % 2) (y % 2) (omega arith) (omega arith)
+
+pub has-or-left : (a b j : ℕ) → T (has a j) → T (has (bitOr a b) j)
+has-or-left a b j t = rw (has-or a b j) (or-left (has a j) (has b j) t)
+
+pub has-or-right : (a b j : ℕ) → T (has b j) → T (has (bitOr a b) j)
+has-or-right a b j t = rw (has-or a b j) (or-right (has a j) (has b j) t)
+
+pub has-or-cases : (a b j : ℕ) → T (has (bitOr a b) j) → T (has a j) ⊎ T (has b j)
+has-or-cases a b j t = or-cases (has a j) (has b j) (rw (has-or a b j) at t)

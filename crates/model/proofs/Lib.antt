@@ -20,6 +20,7 @@ pub mod Client
 pub mod ClientCheck
 pub mod Attempts
 pub mod Run
+pub mod History
 pub mod Refusals
 pub mod Connect
 pub mod Unused

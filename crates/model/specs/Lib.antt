@@ -10,6 +10,7 @@ pub mod Plan
 pub mod Connect
 pub mod Client
 pub mod Run
+pub mod History
 pub mod Weak
 pub mod Demands
 pub mod Cases
