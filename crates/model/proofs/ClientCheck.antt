@@ -7,11 +7,11 @@ use mathlib.Core.List.{List}
 use Prim.Native.Nat.{ℕ}
 use lib.Dec.{T}
 use Rattle.model.specs.Contract.{Contract}
-use Rattle.model.specs.Sheet.{Reading, good, refusal, Sheet, Refusal, Both, readSheet, readBoth, sheetOf, contractIn}
+use Rattle.model.specs.Sheet.{Reading, good, refusal, Sheet, Refusal, Both, readSheet, readBoth, contractIn}
 use Rattle.model.specs.Client.{Complies, complies, compliesIn, compliesOf}
 use Rattle.model.specs.Demands.{ClientCheck}
 use Rattle.model.proofs.Lists.{is-true}
-use Rattle.model.proofs.Sheet.{both-elim, both-well-formed, good-injective}
+use Rattle.model.proofs.Sheet.{both-elim, both-well-formed, both-contracts, good-injective}
 use Rattle.model.proofs.Client.{complies-sound, complies-complete}
 
 module _ (client service : List ℕ) where
@@ -41,11 +41,6 @@ module _ (client service : List ℕ) where
 pub client-check : ClientCheck
 client-check client service = (yes-sound client service, yes-complete client service)
 
--- the contract of a sheet that is read
-pub contract-read : (b : List ℕ) (s : Sheet) → readSheet b ≡ good s → contractIn b ≡ s .contract
-unfolding contractIn sheetOf
-contract-read b s e = ap (λ (r : Reading _ Sheet). sheetOf r .contract) e
-
 -- a client that is read, and of which the check says yes, complies with the contract of the service's bytes
 pub yes-complies : (client service : List ℕ) (user : Sheet) → readSheet client ≡ good user
     → (compliesOf client service .number ≡ 0) × (compliesOf client service .yes ≡ true) → Complies (user .contract) (contractIn service)
@@ -53,5 +48,5 @@ yes-complies client service user read says =
     let w = yes-sound client service says in
     let b = both-elim 1 0 client service (w .0) (w .1) in
     let one : w .0 .one ≡ user .contract = b .is-one ∙ ap (λ (s : Sheet). s .contract) (good-injective (sym (b .read₁) ∙ read)) in
-    let two : w .0 .two ≡ contractIn service = b .is-two ∙ sym (contract-read service (b .sheet₂) (b .read₂)) in
+    let two : w .0 .two ≡ contractIn service = sym (both-contracts 1 0 client service (w .0) (w .1) .1) in
     subst (λ (c : Contract). Complies c (contractIn service)) one (subst (λ (c : Contract). Complies (w .0 .one) c) two (w .2))

@@ -1,6 +1,7 @@
 -- Demand 2: an admitted pair comes to one of four cases, and each says what definition 3.7 of Padovani 2010 says there.
 -- Assumes nothing.
 use mathlib.Core.Path.{_≡_, refl, sym, ap, subst⁻¹, _∙_}
+use mathlib.Core.Bool.{Bool, true, false, cond}
 use mathlib.Core.Logic.{_≢_, _⊎_, inl, inr, ⊎-elim}
 use mathlib.Core.List.{List, [], _++_, List·Memᴰ}
 use Prim.Native.Nat.{ℕ, _+_, _≤_, _<_}
@@ -8,8 +9,9 @@ use native.Mathlib.Omega.{arith}
 use lib.ListN.{length, take, drop}
 use lib.Seq.{take-append-seam}
 use lib.Dec.{leb, le→leb}
+use borrow.Author.Tests.{leb-true}
 use Rattle.model.specs.Contract.{Contract}
-use Rattle.model.specs.Sheet.{plain, Both}
+use Rattle.model.specs.Sheet.{Reading, good, refusal, Refusal, plain, Both, readBoth}
 use Rattle.model.specs.Situation.{Situation, start, alike, same, codes, next}
 use Rattle.model.specs.Search.{Search, searchFrom}
 use Rattle.model.specs.Plan.{planBytes, rowsIn}
@@ -17,6 +19,7 @@ use Rattle.model.specs.Connect.{Answer, Outcome, refused, counted, settl
 use Rattle.model.specs.Demands.{emittedPlan, Admitted, ReachedCount, Related, HoldsLargest, outcome, number, Decides, Demand-2}
 use Rattle.model.proofs.Lists.{cond-yes}
 use Rattle.model.proofs.Sheet.{WellFormed, both-well-formed}
+use Rattle.model.proofs.Refusals.{OnlyRefused, both-numbers}
 use Rattle.model.proofs.Connect.{Shape, cut-off, removed, too-long, fits, shape, cut-exceeds, whole-within, whole-count, kept-related, rounds-within, holds-largest, emitted-rows}
 
 -- the reached situations are never more than the plan layout can number
@@ -24,8 +27,27 @@ pub limit-few : (records : ℕ) → limitOf records ≤ 4096
 unfolding limitOf
 limit-few records = omega arith
 
+-- an answer that is none of 1 to 10 is of an admitted pair
+pub answer-admitted : (records room k : ℕ) (old new : List ℕ)
+    → (1 ≤ outcomeOf records room k old new .answer .number → outcomeOf records room k old new .answer .number ≤ 10 → ⊥)
+    → (sheets : Both) × Admitted k old new sheets
+unfolding outcomeOf ranked refused plain
+answer-admitted records room k old new = go (readBoth 0 0 old new) refl (both-numbers 0 0 old new)
+  where
+    at-rank : (sheets : Both) → readBoth 0 0 old new ≡ good sheets → (t : Bool) → leb k 3 ≡ t
+        → (1 ≤ cond t (connected k (sheets .one) (sheets .two) (limitOf records) room) (refused (plain 10 0)) .answer .number
+        → cond t (connected k (sheets .one) (sheets .two) (limitOf records) room) (refused (plain 10 0)) .answer .number ≤ 10 → ⊥)
+        → (sheets : Both) × Admitted k old new sheets
+    at-rank sheets e true l f = (sheets, record { reads = e; rank = leb-true k 3 l })
+    at-rank sheets e false l f = absurd (f (omega arith) (omega arith))
+
+    go : (r : Reading Refusal Both) → readBoth 0 0 old new ≡ r → OnlyRefused (λ (r : Refusal). (1 ≤ r .number) × (r .number ≤ 9)) r
+        → (1 ≤ ranked k records room r .answer .number → ranked k records room r .answer .number ≤ 10 → ⊥) → (sheets : Both) × Admitted k old new sheets
+    go (refusal r) e o f = absurd (f (o .0) (omega (arith, o .1)))
+    go (good sheets) e o f = at-rank sheets e (leb k 3) refl f
+
 -- an admitted pair comes to `connected`
-admitted-outcome : (records room k : ℕ) (old new : List ℕ) (sheets : Both) → Admitted k old new sheets
+pub admitted-outcome : (records room k : ℕ) (old new : List ℕ) (sheets : Both) → Admitted k old new sheets
     → outcomeOf records room k old new ≡ connected k (sheets .one) (sheets .two) (limitOf records) room
 unfolding outcomeOf ranked
 admitted-outcome records room k old new sheets a =

@@ -2,21 +2,20 @@
 -- the rows holds of the bytes.
 -- Assumes nothing.
 use mathlib.Core.Path.{_≡_, refl, sym, ap, subst⁻¹, _∙_}
-use mathlib.Core.Bool.{Bool, true, false, cond}
 use mathlib.Core.Option.{some}
 use mathlib.Core.List.{List, [], List·Memᴰ}
 use Prim.Native.Nat.{ℕ, _*_, _≤_, _<_}
 use native.Mathlib.Omega.{arith}
 use lib.ListN.{length}
-use lib.Dec.{T, leb}
-use borrow.Author.Tests.{lt-ltb, leb-true}
+use lib.Dec.{T}
+use borrow.Author.Tests.{lt-ltb}
 use Rattle.model.specs.Contract.{Contract, has}
-use Rattle.model.specs.Sheet.{Reading, good, refusal, Refusal, plain, Both, readBoth, contractIn}
+use Rattle.model.specs.Sheet.{plain, Both, contractIn}
 use Rattle.model.specs.Situation.{Situation, start, alike, same, codes, next}
 use Rattle.model.specs.Test.{test}
 use Rattle.model.specs.Search.{searchFrom}
 use Rattle.model.specs.Plan.{Move, held, planStates, planBytes, readPlan, rowsIn, stepRow, stepIn, stepOf}
-use Rattle.model.specs.Connect.{Outcome, refused, counted, settledOf, rowsFor, connected, limitOf, ranked, outcomeOf, connectOf}
+use Rattle.model.specs.Connect.{Outcome, refused, counted, settledOf, rowsFor, connected, limitOf, outcomeOf, connectOf}
 use Rattle.model.specs.Client.{Complies}
 use Rattle.model.specs.Run.{Run, begin, Attempt, rowAtRun, runFrom, mostAlone, Standstill}
 use Rattle.model.specs.Demands.{emittedPlan, Admitted, IsReached, number, Follows, Runs, Demand-3}
@@ -24,14 +23,12 @@ use Rattle.model.proofs.Rounds.{Closed, settled-closed, settled-from}
 use Rattle.model.proofs.Situation.{is-same}
 use Rattle.model.proofs.Test.{PassesAt, is-test}
 use Rattle.model.proofs.Weak.{is-reached, rank-reached}
-use Rattle.model.proofs.Sheet.{WellFormed, both-elim, both-well-formed}
-use Rattle.model.proofs.Refusals.{OnlyRefused, both-numbers}
+use Rattle.model.proofs.Sheet.{WellFormed, both-well-formed, both-contracts}
 use Rattle.model.proofs.PlanRows.{mem-at}
-use Rattle.model.proofs.ClientCheck.{contract-read}
 use Rattle.model.proofs.Bound.{allowed-alike}
 use Rattle.model.proofs.Run.{Tied, tied-begin, tied-run, no-standstill, few-alone}
 use Rattle.model.proofs.Connect.{Shape, cut-off, removed, too-long, fits, shape, emitted-reads, emitted-rows, rows-states}
-use Rattle.model.proofs.Demand2.{limit-few, emitted-is}
+use Rattle.model.proofs.Demand2.{limit-few, answer-admitted, admitted-outcome, emitted-is}
 
 -- what acceptance gives
 record Accepted (k limit room : ℕ) (old new : List ℕ) : Type 0 where
@@ -58,20 +55,12 @@ accepted-shape k limit room old new sheets a z (fits w m l e) =
     record { sheets = sheets; admitted = a; whole = w; begun = m; situations = _; states = _; rounds = _; emits = e }
 
 accepted : (records room k : ℕ) (old new : List ℕ) → outcomeOf records room k old new .answer .number ≡ 0 → Accepted k (limitOf records) room old new
-unfolding outcomeOf ranked refused plain
-accepted records room k old new = go (readBoth 0 0 old new) refl (both-numbers 0 0 old new)
-  where
-    at-rank : (sheets : Both) → readBoth 0 0 old new ≡ good sheets → (t : Bool) → leb k 3 ≡ t
-        → cond t (connected k (sheets .one) (sheets .two) (limitOf records) room) (refused (plain 10 0)) .answer .number ≡ 0
-        → Accepted k (limitOf records) room old new
-    at-rank sheets e true l z =
-        accepted-shape k (limitOf records) room old new sheets (record { reads = e; rank = leb-true k 3 l }) z (shape k (sheets .one) (sheets .two) (limitOf records) room)
-    at-rank sheets e false l z = absurd (omega arith)
-
-    go : (r : Reading Refusal Both) → readBoth 0 0 old new ≡ r → OnlyRefused (λ (r : Refusal). (1 ≤ r .number) × (r .number ≤ 9)) r
-        → ranked k records room r .answer .number ≡ 0 → Accepted k (limitOf records) room old new
-    go (refusal r) e o z = absurd (omega (arith, o .0))
-    go (good sheets) e o z = at-rank sheets e (leb k 3) refl z
+accepted records room k old new z =
+    let a = answer-admitted records room k old new (λ l h. absurd (omega (arith, z, l))) in
+    let sheets = a .0 in
+    accepted-shape k (limitOf records) room old new sheets (a .1)
+    (ap (λ (o : Outcome). o .answer .number) (sym (admitted-outcome records room k old new sheets (a .1))) ∙ z)
+    (shape k (sheets .one) (sheets .two) (limitOf records) room)
 
 module _ (k limit : ℕ) (limit-ok : limit ≤ 4096) (room : ℕ) (old new : List ℕ) (c : Accepted k limit room old new) (user : Contract)
     (attempts : List Attempt) where
@@ -165,11 +154,9 @@ pub demand-3 : Demand-3
 unfolding connectOf
 demand-3 R blank k old new work plan client user attempts z read =
     let c = accepted (length work) (length plan) k old new z in
-    let b = both-elim 0 0 old new (c .sheets) (c .admitted .reads) in
-    let is-old : contractIn old ≡ c .sheets .one = contract-read old (b .sheet₁) (b .read₁) ∙ sym (b .is-one) in
-    let is-new : contractIn new ≡ c .sheets .two = contract-read new (b .sheet₂) (b .read₂) ∙ sym (b .is-two) in
+    let are = both-contracts 0 0 old new (c .sheets) (c .admitted .reads) in
     let emits = emitted-is blank k old new (c .sheets) work (c .admitted) plan (c .situations) (c .states) (c .rounds) (c .emits) in
-    subst⁻¹ (λ (o : Contract). Runs k (user .contract) o (contractIn new) (emittedPlan (connectOf blank k old new work plan)) attempts) is-old
-    (subst⁻¹ (λ (n : Contract). Runs k (user .contract) (c .sheets .one) n (emittedPlan (connectOf blank k old new work plan)) attempts) is-new
+    subst⁻¹ (λ (o : Contract). Runs k (user .contract) o (contractIn new) (emittedPlan (connectOf blank k old new work plan)) attempts) (are .0)
+    (subst⁻¹ (λ (n : Contract). Runs k (user .contract) (c .sheets .one) n (emittedPlan (connectOf blank k old new work plan)) attempts) (are .1)
     (subst⁻¹ (λ (b : List ℕ). Runs k (user .contract) (c .sheets .one) (c .sheets .two) b attempts) emits
     (runs k (limitOf (length work)) (limit-few (length work)) (length plan) old new c (user .contract) attempts)))

@@ -1,17 +1,17 @@
 -- Laws of tests and of the functions on lists: what each says of the elements, by recursion on the list and by cases on the
 -- test.
 -- Assumes nothing.
-use mathlib.Core.Path.{_≡_, refl, subst, subst⁻¹}
+use mathlib.Core.Path.{_≡_, refl, ap, subst, subst⁻¹, _∙_}
 use mathlib.Core.Bool.{Bool, true, false, _&&_, _||_, cond}
 use mathlib.Core.Logic.{_⊎_, inl, inr, ⊎-elim}
-use mathlib.Core.Option.{Option, none, some, Option·none-ne-some}
-use mathlib.Core.List.{List, [], _∷_, map, List·Memᴰ, List·Memᴰ·head, List·Memᴰ·tail, List·Memᴰ·cases-cons, List·Memᴰ·not-nil, List·Memᴰ·append-cases, Memᴰ·append-left, Memᴰ·append-right, Memᴰ·map, Memᴰ·of-map}
+use mathlib.Core.Option.{Option, none, some, Option·some-injective, Option·none-ne-some, bind}
+use mathlib.Core.List.{List, [], _∷_, _++_, map, List·Memᴰ, List·Memᴰ·head, List·Memᴰ·tail, List·Memᴰ·cases-cons, List·Memᴰ·not-nil, List·Memᴰ·append-cases, Memᴰ·append-left, Memᴰ·append-right, Memᴰ·map, Memᴰ·of-map}
 use Prim.Native.Nat.{ℕ, zero, suc, _+_, _*_, _≤_, _<_}
 use native.Mathlib.Omega.{arith}
 use native.Mathlib.Nat.{suc-mul, zero-mul}
 use lib.ListN.{length, getD, length-append, length-map}
 use lib.Dec.{T}
-use Rattle.model.specs.Lists.{any, all, keep, combine}
+use Rattle.model.specs.Lists.{any, all, keep, combine, follow}
 
 -- ---- tests
 
@@ -223,3 +223,22 @@ module _ {A B C : Type 0} (f : A → B → C) where
   combine-length [] ys = omega (arith, zero-mul (length ys))
   combine-length (x ∷ xs) ys =
       omega (arith, length-append (map (f x) ys) (combine f xs ys), length-map ys (f x), combine-length xs ys, suc-mul (length xs) (length ys))
+
+-- ---- `follow`
+
+-- one step more
+pub follow-move : {A : Type 0} (step : A → ℕ → Option A) (labels : List ℕ) (x y : A) (label : ℕ) → follow step x labels ≡ some y
+    → follow step x (labels ++ label ∷ []) ≡ step y label
+unfolding follow bind
+follow-move {A} step [] x y label e = last (step x label) ∙ ap (λ (z : A). step z label) (Option·some-injective x y e)
+  where
+    last : (o : Option A) → bind o (λ z. some z) ≡ o
+    last none = refl
+    last (some z) = refl
+follow-move {A} step (first ∷ labels) x y label e = go (step x first) e (λ z. follow-move step labels z y label)
+  where
+    go : (o : Option A) → bind o (λ z. follow step z labels) ≡ some y
+        → ((z : A) → follow step z labels ≡ some y → follow step z (labels ++ label ∷ []) ≡ step y label)
+        → bind o (λ z. follow step z (labels ++ label ∷ [])) ≡ step y label
+    go none e f = absurd (Option·none-ne-some y e)
+    go (some z) e f = f z e

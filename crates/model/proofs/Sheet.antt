@@ -1,6 +1,6 @@
 -- A sheet that is read is well formed: each test that reading makes gives a fact, from a row's masks up to two whole sheets.
 -- Assumes nothing.
-use mathlib.Core.Path.{_≡_, refl, sym, ap, subst, subst⁻¹}
+use mathlib.Core.Path.{_≡_, refl, sym, ap, subst, subst⁻¹, _∙_}
 use mathlib.Core.Bool.{Bool, true, false, not, _&&_, _||_}
 use mathlib.Core.Logic.{⊎-elim}
 use mathlib.Core.List.{List, [], _∷_, List·Memᴰ, List·Memᴰ·cases-cons, List·Memᴰ·not-nil}
@@ -11,7 +11,7 @@ use lib.Dec.{T, eqb, ltb, leb, T-not, not-T, eqb→eq, ltb→lt, leb→le, nleb�
 use Rattle.model.specs.Lists.{any, keep}
 use Rattle.model.specs.Bytes.{byte, word}
 use Rattle.model.specs.Contract.{Contract, State, actions, has, name, state, nowhere, offers, offersIn, offeredBelow, after}
-use Rattle.model.specs.Sheet.{Reading, good, refusal, check, then, Fault, Trailer, trailer, strayBit, masksFrom, successorsFrom, Row, rowWith, rowAt, statesFrom, Sheet, goodTrailer, readSheet, inPlace, Both, readBoth}
+use Rattle.model.specs.Sheet.{Reading, good, refusal, check, then, Fault, Trailer, trailer, strayBit, masksFrom, successorsFrom, Row, rowWith, rowAt, statesFrom, Sheet, goodTrailer, readSheet, inPlace, Both, readBoth, sheetOf, contractIn}
 use Rattle.model.proofs.Lists.{and-both, and-of, or-left, any-intro, any-elim, keep-grows-strictly, getD-mem}
 use Rattle.model.proofs.Actions.{action}
 
@@ -239,3 +239,15 @@ both-well-formed role₁ role₂ b₁ b₂ w p =
       subst⁻¹ WellFormed (r .is-two) (sheet-well-formed b₂ (r .sheet₂) (r .read₂)),
       r .same-names,
     )
+
+-- the contract of a sheet that is read
+contract-read : (b : List ℕ) (s : Sheet) → readSheet b ≡ good s → contractIn b ≡ s .contract
+unfolding contractIn sheetOf
+contract-read b s e = ap (λ (r : Reading _ Sheet). sheetOf r .contract) e
+
+-- the contracts of two sheets that are read
+pub both-contracts : (role₁ role₂ : ℕ) (b₁ b₂ : List ℕ) (w : Both) → readBoth role₁ role₂ b₁ b₂ ≡ good w
+    → (contractIn b₁ ≡ w .one) × (contractIn b₂ ≡ w .two)
+both-contracts role₁ role₂ b₁ b₂ w p =
+    let r = both-elim role₁ role₂ b₁ b₂ w p in
+    (contract-read b₁ (r .sheet₁) (r .read₁) ∙ sym (r .is-one), contract-read b₂ (r .sheet₂) (r .read₂) ∙ sym (r .is-two))

@@ -1,8 +1,9 @@
 -- The history of a run, and the buffer that it leaves. Document 01, "Moves and the buffer" and "The client check and the run".
 -- Assumes nothing.
 use mathlib.Core.List.{List, [], _∷_}
-use mathlib.Core.Option.{Option, none, some, bind}
+use mathlib.Core.Option.{Option, none, some}
 use Prim.Native.Nat.{ℕ}
+use Rattle.model.specs.Lists.{follow}
 use Rattle.model.specs.Contract.{Contract}
 use Rattle.model.specs.Situation.{kindOf, bufferAfter}
 use Rattle.model.specs.Plan.{Move}
@@ -25,5 +26,4 @@ module _ (user new : Contract) (rows : List (List Move)) where
 
 -- the buffer that moves leave, one after the other; none if one of them is not allowed by the buffer that it meets
 unfoldable pub bufferFrom : List ℕ → List ℕ → List ℕ → Option (List ℕ)
-bufferFrom limits b [] = some b
-bufferFrom limits b (code ∷ later) = bind (bufferAfter limits b (kindOf code)) (λ next. bufferFrom limits next later)
+bufferFrom limits b made = follow (λ b code. bufferAfter limits b (kindOf code)) b made

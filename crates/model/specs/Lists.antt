@@ -2,6 +2,7 @@
 -- Assumes nothing.
 use mathlib.Core.Bool.{Bool, true, false, _&&_, _||_, cond}
 use mathlib.Core.List.{List, [], _∷_, _++_, map, List·Memᴰ}
+use mathlib.Core.Option.{Option, some, bind}
 use Prim.Native.Nat.{ℕ, zero, suc}
 
 module _ {A : Type 0} where
@@ -36,6 +37,11 @@ module _ {A : Type 0} where
 unfoldable pub combine : {A B C : Type 0} → (A → B → C) → List A → List B → List C
 combine f [] ys = []
 combine f (x ∷ xs) ys = map (f x) ys ++ combine f xs ys
+
+-- steps from x, by labels one after the other; none if one of them cannot be taken
+unfoldable pub follow : {A : Type 0} → (A → ℕ → Option A) → A → List ℕ → Option A
+follow step x [] = some x
+follow step x (label ∷ labels) = bind (step x label) (λ y. follow step y labels)
 
 -- `count` numbers from `first` on, ascending
 unfoldable pub upto : ℕ → ℕ → List ℕ
