@@ -1,4 +1,5 @@
--- Demand 3 over the entry points' contracts: what connecting ensures is what `connectOf` gives, so `demand-3` speaks of it.
+-- Demand 3 and the meaning of a no over the entry points' contracts: what connecting ensures is what `connectOf` gives, so `demand-3` and
+-- `refused-for-good` speak of it.
 -- Assumes nothing.
 use mathlib.Core.Path.{_≡_, sym, ap, subst, subst⁻¹, _∙_}
 use mathlib.Core.List.{List}
@@ -10,6 +11,7 @@ use Rattle.model.specs.Plan as model
 use Rattle.model.specs.Demands.{emittedPlan, Follows, Runs}
 use Rattle.model.proofs.ClientCheck.{yes-complies}
 use Rattle.model.proofs.Demand3.{demand-3}
+use Rattle.why.proofs.NoMeansNone.{refused-for-good}
 use Rattle.table.specs.declared.Record.{Record}
 use Rattle.table.specs.Records.{blank}
 use Rattle.plan.specs.Step.{steppedOf}
@@ -18,7 +20,7 @@ use Rattle.comply.specs.Answer.{complianceOf}
 use Rattle.connect.specs.Answers.{answerOf}
 use Rattle.connect.specs.declared.Answer.{Answer}
 use Rattle.comply.specs.declared.Compliance.{Compliance}
-use Rattle.adapter.specs.Promises.{EntryDemand-3}
+use Rattle.adapter.specs.Promises.{EntryDemand-3, EntryRefusedForGood}
 
 module _ (k : ℕ) (old new : List ℕ) (answer : Answer) (work work′ : List Record) (plan plan′ : List ℕ)
     (ensured : record { answer = answerOf answer; plan = plan′; work = work′ } ≡ connectOf blank k old new work plan) where
@@ -26,9 +28,9 @@ module _ (k : ℕ) (old new : List ℕ) (answer : Answer) (work work′ : List R
   unfolding answerOf
   same-bytes = ap emittedPlan (sym ensured)
 
-  is-accepted : answer .number ≡ 0 → connectOf blank k old new work plan .answer .number ≡ 0
+  number-is : (number : ℕ) → answer .number ≡ number → connectOf blank k old new work plan .answer .number ≡ number
   unfolding answerOf
-  is-accepted z = ap (λ (c : Connected Record). c .answer .number) (sym ensured) ∙ z
+  number-is number z = ap (λ (c : Connected Record). c .answer .number) (sym ensured) ∙ z
 
 -- a record of the answer's fields is what stepping gives
 same-step : (answer : Stepped) (s : model.Stepped) → answer ≡ steppedOf s → record { number = answer .number; state = answer .state } ≡ s
@@ -41,7 +43,7 @@ entry-demand-3 k old new answer work work′ plan plan′ client user attempts e
     let r : Runs k (user .contract) (contractIn old) (contractIn new) (take (answer .length) plan′) attempts =
     subst (λ (b : List ℕ). Runs k (user .contract) (contractIn old) (contractIn new) b attempts)
     (same-bytes k old new answer work work′ plan plan′ ensured)
-    (demand-3 Record blank k old new work plan client user attempts (is-accepted k old new answer work work′ plan plan′ ensured z) read) in
+    (demand-3 Record blank k old new work plan client user attempts (number-is k old new answer work work′ plan plan′ ensured 0 z) read) in
     record {
       steps = λ before after a e s q. subst⁻¹ (Follows _ (a .code)) (same-step s _ q) (r .steps before after a e);
       no-standstill = λ c q number yes.
@@ -50,3 +52,7 @@ entry-demand-3 k old new answer work work′ plan plan′ client user attempts e
           (ap (λ (c : Compliance). c .number) (sym q) ∙ number, ap (λ (c : Compliance). c .yes) (sym q) ∙ yes));
       few-alone = r .few-alone;
     }
+
+pub entry-refused-for-good : EntryRefusedForGood
+entry-refused-for-good k old new answer work work′ plan plan′ ensured z =
+    refused-for-good Record blank k old new work plan (number-is k old new answer work work′ plan plan′ ensured 12 z)

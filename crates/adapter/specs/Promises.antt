@@ -1,4 +1,5 @@
--- Demand 3 in the words of the entry points' own contracts: what connecting, stepping and the client check ensure of their answers.
+-- Demand 3, and what a no means, in the words of the entry points' own contracts: what connecting, stepping and the client check ensure of
+-- their answers.
 -- Assumes nothing.
 use mathlib.Core.Path.{_≡_}
 use mathlib.Core.Bool.{true}
@@ -8,11 +9,14 @@ use lib.ListN.{take}
 use lib.Dec.{T}
 use Rattle.model.specs.Contract.{Contract, has}
 use Rattle.model.specs.Sheet.{Sheet, good, readSheet, contractIn}
+use Rattle.model.specs.Situation.{alike}
 use Rattle.model.specs.Plan.{rowsIn, stepOf}
 use Rattle.model.specs.Connect.{connectOf}
 use Rattle.model.specs.Client.{compliesOf}
 use Rattle.model.specs.Run.{begin, Attempt, rowAtRun, runFrom, mostAlone, Standstill}
 use Rattle.model.specs.Demands.{Follows}
+use Rattle.why.specs.Demanding.{demanding}
+use Rattle.why.specs.Game.{Defeats}
 use Rattle.plan.specs.Step.{steppedOf}
 use Rattle.plan.specs.declared.Stepped.{Stepped}
 use Rattle.comply.specs.Answer.{complianceOf}
@@ -44,3 +48,10 @@ EntryDemand-3 =
     → record { answer = answerOf answer; plan = plan′; work = work′ } ≡ connectOf blank k old new work plan → answer .number ≡ 0
     → readSheet client ≡ good user
     → RunsByAnswers k client old (user .contract) (contractIn new) (take (answer .length) plan′) attempts
+
+-- Whatever connecting ensured of an answer 12: the most demanding client that the old contract satisfies defeats every adapter.
+abbrev pub EntryRefusedForGood : Type 0
+EntryRefusedForGood =
+    (k : ℕ) (old new : List ℕ) (answer : Answer) (work work′ : List Record) (plan plan′ : List ℕ)
+    → record { answer = answerOf answer; plan = plan′; work = work′ } ≡ connectOf blank k old new work plan → answer .number ≡ 12
+    → Defeats (alike k) (contractIn old) (contractIn new) (demanding (contractIn old))
