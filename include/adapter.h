@@ -40,9 +40,9 @@ extern "C" {
 #define ADAPTER_LONGEST_PLAN 536584
 
 /*
- * The number of an answer: 0, or what is wrong. The comments are document 01's, "Given when". 12 is proved to mean that no relation of
- * definition 3.7 of Padovani 2010 holds the start with this k. That no plan whatever would do then is that paper's theorem 3.8, which is
- * not proved here.
+ * The number of an answer: 0, or what is wrong. The comments are document 01's, "Given when". 12 is proved to mean that no adapter would
+ * do: no relation of definition 3.7 of Padovani 2010 holds the start with this k, and some client that complies with the old contract can
+ * hang behind every adapter that keeps at most k messages of each name and direction, a plan or not.
  */
 enum adapter_refusal {
     ADAPTER_ACCEPTED = 0,

@@ -10,6 +10,8 @@ from collections import Counter
 from pathlib import Path
 
 DOCUMENTS = [Path('README.md'), *sorted(Path('docs').glob('*.md')), Path('tests/README.md')]
+# the crates whose definitions and statements an auditor reads
+STATEMENTS = ('model', 'why')
 # words that stand for any name
 ANY = re.compile(r'\b(?:NAME|FUNCTION|File|crate/name|crates/crate)\b')
 
@@ -83,8 +85,8 @@ def lookups(line):
         for edit in edits.strip(', ').split(', '):
             crate, _, name = edit.partition('/')
             text = there(Path('crates', crate, 'must-fail', name + '.edit'))
-            # one that changes what an inner function promises, and neither code nor model, is called so
-            contract = crate != 'model' and text.startswith('file: specs/')
+            # one that changes what an inner function promises, and neither code nor a statement that is read, is called so
+            contract = crate not in STATEMENTS and text.startswith('file: specs/')
             yield 'edit of a contract' if called else 'edit', edit, text and contract == bool(called)
     for groups in GROUPS.findall(line):
         cases = [there(path) for path in Path('tests/reference').glob('*.py')]

@@ -39,16 +39,16 @@ module _ (R S : ℕ) where
   need-code code = go (leb code 13) (leb-true code 13) (leb 16 code) (leb-true 16 code) (leb code 29) (leb-true code 29)
       (leb 32 code) (leb-true 32 code) (leb code 45) (leb-true code 45)
     where
-      same : (low : ℕ) → low ≤ code → List·Memᴰ (low + (code - low)) codes → List·Memᴰ code codes
-      same low l m = let e : low + (code - low) ≡ code = omega arith in subst (λ (c : ℕ). List·Memᴰ c codes) e m
+      back : (low : ℕ) → low ≤ code → List·Memᴰ (low + (code - low)) codes → List·Memᴰ code codes
+      back low l m = let e : low + (code - low) ≡ code = omega arith in subst (λ (c : ℕ). List·Memᴰ c codes) e m
 
       go : (a : Bool) → (a ≡ true → code ≤ 13) → (b : Bool) → (b ≡ true → 16 ≤ code) → (c : Bool) → (c ≡ true → code ≤ 29)
           → (d : Bool) → (d ≡ true → 32 ≤ code) → (e : Bool) → (e ≡ true → code ≤ 45)
           → T (need R S (cond a (straight code) (cond (b && c) (client (code - 16)) (cond (d && e) (service (code - 32)) stray)))) → List·Memᴰ code codes
       go true f b g c h d i e k t = code-straight code (omega (arith, f refl))
-      go false f true g true h d i e k t = same 16 (g refl) (code-client (code - 16) (omega (arith, g refl, h refl)))
-      go false f true g false h true i true k t = same 32 (i refl) (code-service (code - 32) (omega (arith, i refl, k refl)))
-      go false f false g c h true i true k t = same 32 (i refl) (code-service (code - 32) (omega (arith, i refl, k refl)))
+      go false f true g true h d i e k t = back 16 (g refl) (code-client (code - 16) (omega (arith, g refl, h refl)))
+      go false f true g false h true i true k t = back 32 (i refl) (code-service (code - 32) (omega (arith, i refl, k refl)))
+      go false f false g c h true i true k t = back 32 (i refl) (code-service (code - 32) (omega (arith, i refl, k refl)))
       go false f true g false h true i false k t = absurd t
       go false f true g false h false i e k t = absurd t
       go false f false g c h true i false k t = absurd t

@@ -9,7 +9,7 @@ use Rattle.model.specs.Situation.{kindOf, bufferAfter}
 use Rattle.model.specs.Plan.{Move}
 use Rattle.model.specs.Run.{Run, Attempt, moveTo, attempted, runFrom}
 use Rattle.model.specs.History.{ifMade, historyFrom, bufferFrom}
-use Rattle.model.proofs.Lists.{follow-move}
+use Rattle.model.proofs.Lists.{through-more}
 
 module _ (user new : Contract) (rows : List (List Move)) where
   pub history-move : (before : List Attempt) (r : Run) (a : Attempt) (to : ℕ) → moveTo user new rows (runFrom user new rows r before) a ≡ some to
@@ -29,4 +29,4 @@ module _ (user new : Contract) (rows : List (List Move)) where
 pub buffer-move : (limits made : List ℕ) (b b′ : List ℕ) (code : ℕ) → bufferFrom limits b made ≡ some b′
     → bufferFrom limits b (made ++ code ∷ []) ≡ bufferAfter limits b′ (kindOf code)
 unfolding bufferFrom
-buffer-move limits made b b′ code e = follow-move (λ b code. bufferAfter limits b (kindOf code)) made b b′ code e
+buffer-move limits made b b′ code e = through-more (λ b code. bufferAfter limits b (kindOf code)) made b b′ code e

@@ -11,7 +11,7 @@ use native.Mathlib.Omega.{arith}
 use native.Mathlib.Nat.{suc-mul, zero-mul}
 use lib.ListN.{length, getD, length-append, length-map}
 use lib.Dec.{T}
-use Rattle.model.specs.Lists.{any, all, keep, combine, follow}
+use Rattle.model.specs.Lists.{any, all, keep, combine, through}
 
 -- ---- tests
 
@@ -224,21 +224,21 @@ module _ {A B C : Type 0} (f : A → B → C) where
   combine-length (x ∷ xs) ys =
       omega (arith, length-append (map (f x) ys) (combine f xs ys), length-map ys (f x), combine-length xs ys, suc-mul (length xs) (length ys))
 
--- ---- `follow`
+-- ---- `through`
 
 -- one step more
-pub follow-move : {A : Type 0} (step : A → ℕ → Option A) (labels : List ℕ) (x y : A) (label : ℕ) → follow step x labels ≡ some y
-    → follow step x (labels ++ label ∷ []) ≡ step y label
-unfolding follow bind
-follow-move {A} step [] x y label e = last (step x label) ∙ ap (λ (z : A). step z label) (Option·some-injective x y e)
+pub through-more : {A : Type 0} (step : A → ℕ → Option A) (labels : List ℕ) (x y : A) (label : ℕ) → through step x labels ≡ some y
+    → through step x (labels ++ label ∷ []) ≡ step y label
+unfolding through bind
+through-more {A} step [] x y label e = last (step x label) ∙ ap (λ (z : A). step z label) (Option·some-injective x y e)
   where
     last : (o : Option A) → bind o (λ z. some z) ≡ o
     last none = refl
     last (some z) = refl
-follow-move {A} step (first ∷ labels) x y label e = go (step x first) e (λ z. follow-move step labels z y label)
+through-more {A} step (first ∷ labels) x y label e = go (step x first) e (λ z. through-more step labels z y label)
   where
-    go : (o : Option A) → bind o (λ z. follow step z labels) ≡ some y
-        → ((z : A) → follow step z labels ≡ some y → follow step z (labels ++ label ∷ []) ≡ step y label)
-        → bind o (λ z. follow step z (labels ++ label ∷ [])) ≡ step y label
+    go : (o : Option A) → bind o (λ z. through step z labels) ≡ some y
+        → ((z : A) → through step z labels ≡ some y → through step z (labels ++ label ∷ []) ≡ step y label)
+        → bind o (λ z. through step z (labels ++ label ∷ [])) ≡ step y label
     go none e f = absurd (Option·none-ne-some y e)
     go (some z) e f = f z e

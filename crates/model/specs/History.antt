@@ -3,7 +3,7 @@
 use mathlib.Core.List.{List, [], _∷_}
 use mathlib.Core.Option.{Option, none, some}
 use Prim.Native.Nat.{ℕ}
-use Rattle.model.specs.Lists.{follow}
+use Rattle.model.specs.Lists.{through}
 use Rattle.model.specs.Contract.{Contract}
 use Rattle.model.specs.Situation.{kindOf, bufferAfter}
 use Rattle.model.specs.Plan.{Move}
@@ -26,4 +26,4 @@ module _ (user new : Contract) (rows : List (List Move)) where
 
 -- the buffer that moves leave, one after the other; none if one of them is not allowed by the buffer that it meets
 unfoldable pub bufferFrom : List ℕ → List ℕ → List ℕ → Option (List ℕ)
-bufferFrom limits b made = follow (λ b code. bufferAfter limits b (kindOf code)) b made
+bufferFrom limits b made = through (λ b code. bufferAfter limits b (kindOf code)) b made

@@ -39,9 +39,9 @@ combine f [] ys = []
 combine f (x ∷ xs) ys = map (f x) ys ++ combine f xs ys
 
 -- steps from x, by labels one after the other; none if one of them cannot be taken
-unfoldable pub follow : {A : Type 0} → (A → ℕ → Option A) → A → List ℕ → Option A
-follow step x [] = some x
-follow step x (label ∷ labels) = bind (step x label) (λ y. follow step y labels)
+unfoldable pub through : {A : Type 0} → (A → ℕ → Option A) → A → List ℕ → Option A
+through step x [] = some x
+through step x (label ∷ labels) = bind (step x label) (λ y. through step y labels)
 
 -- `count` numbers from `first` on, ascending
 unfoldable pub upto : ℕ → ℕ → List ℕ

@@ -54,9 +54,9 @@ module _ (limits : List ℕ) (σ τ : Contract) (σ-formed : WellFormed σ) (τ-
     q = state τ (s .new)
 
     -- its action is offered
-    is-offered : (code : ℕ) → List·Memᴰ code codes → T (need R S (kindOf code)) → T (offered p q (kindOf code))
+    action-offered : (code : ℕ) → List·Memᴰ code codes → T (need R S (kindOf code)) → T (offered p q (kindOf code))
     unfolding offered
-    is-offered =
+    action-offered =
         code-elim (λ (code : ℕ). T (need R S (kindOf code)) → T (offered p q (kindOf code)))
         (λ j h t.
         let w = need-straight R S j h t in
@@ -125,7 +125,7 @@ module _ (limits : List ℕ) (σ τ : Contract) (σ-formed : WellFormed σ) (τ-
             let A = movesInto same codes nx there s in
             let known = need-code (trap .R) (trap .S) code (can .needed) in
             let t = behind limits σ τ s b (kindOf code) in
-            let leads : nx s code ≡ some t = next-intro limits σ τ s code (kindOf code) b refl (is-offered A s within trap code known (can .needed)) x in
+            let leads : nx s code ≡ some t = next-intro limits σ τ s code (kindOf code) b refl (action-offered A s within trap code known (can .needed)) x in
             lost-but t (by-move code known leads reached)
             (λ m. trap .shut code known (can .needed) (moves-intro same is-same codes nx there s code t known leads m))
             (made ++ code ∷ [])

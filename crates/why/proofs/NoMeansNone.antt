@@ -27,7 +27,7 @@ use Rattle.model.proofs.Finite.{some-search-whole}
 use Rattle.model.proofs.Sheet.{WellFormed, both-well-formed, both-contracts}
 use Rattle.model.proofs.Demand2.{answer-admitted, demand-2}
 use Rattle.why.specs.Demanding.{demanding}
-use Rattle.why.specs.Game.{Strategy, EndsBadly, Defeats, NoMeansNone, RefusedForGood, Served, GameDecides}
+use Rattle.why.specs.Game.{Strategy, EndsBadly, Defeats, NoMeansNone, RefusedForGood, Serves, AllServed, GameDecides}
 use Rattle.why.proofs.Demanding.{demanding-complies}
 use Rattle.why.proofs.Lost.{start-lost}
 use Rattle.why.proofs.Served.{served}
@@ -64,16 +64,14 @@ module _ (limits : List ℕ) (σ τ : Contract) (σ-formed : WellFormed σ) (τ-
   holds-kept : Largest limits σ τ start → List·Memᴰ start kept
   holds-kept = largest-is-kept limits σ τ limit whole start (at-start refl)
 
-  served-related : Served limits σ τ → Largest limits σ τ start
-  served-related g =
+  -- it is enough that the most demanding client is served
+  served-related : (offer : Strategy) → Serves limits (demanding σ) τ offer → Largest limits σ τ start
+  served-related offer serves =
       ⊎-elim (λ t. kept-is-largest limits σ τ limit whole start (member-elim same is-same start kept t))
-      (λ t.
-      absurd
-      (g .serves (demanding σ) (demanding-complies σ)
-      (every-strategy (λ l. t (member-intro same is-same (holds-kept l))) (g .offer))))
+      (λ t. absurd (serves (every-strategy (λ l. t (member-intro same is-same (holds-kept l))) offer)))
       (dec-T (member same start kept))
 
-  related-served : Largest limits σ τ start → Served limits σ τ
+  related-served : Largest limits σ τ start → AllServed limits σ τ
   related-served l =
       served limits σ τ kept
       (settled-closed same is-same codes nx (test σ τ) (PassesAt σ τ) (is-test σ τ) (searchFrom same codes nx limit start .done))
@@ -88,8 +86,18 @@ no-means-none limits old new sheets e =
 
 pub game-decides : GameDecides
 game-decides limits old new sheets e =
+    let σ = sheets .one in
+    let τ = sheets .two in
     let w = both-well-formed 0 0 old new sheets e in
-    (served-related limits (sheets .one) (sheets .two) (w .0) (w .1), related-served limits (sheets .one) (sheets .two) (w .0) (w .1))
+    let related : (offer : Strategy) → Serves limits (demanding σ) τ offer → Largest limits σ τ start =
+    served-related limits σ τ (w .0) (w .1) in
+    let one : Largest limits σ τ start → AllServed limits σ τ = related-served limits σ τ (w .0) (w .1) in (
+      (
+        (λ each. let s = each (demanding σ) (demanding-complies σ) in related (s .0) (s .1)),
+        (λ l user complies. (one l .offer, one l .serves user complies)),
+      ),
+      ((λ all-served. related (all-served .offer) (all-served .serves (demanding σ) (demanding-complies σ))), one),
+    )
 
 -- ---- over connecting's answer
 

@@ -9,13 +9,13 @@ use mathlib.Core.List.{List, [], _∷_, _++_, List·Memᴰ}
 use Prim.Native.Nat.{ℕ}
 use lib.ListN.{getD}
 use lib.Dec.{T}
-use Rattle.model.specs.Lists.{follow}
+use Rattle.model.specs.Lists.{through}
 use Rattle.model.specs.Contract.{Contract, state}
 use Rattle.model.specs.Situation.{start, Kind, straight, client, service, stray, kindOf, newAfter}
 use Rattle.model.specs.Plan.{Move, held}
 use Rattle.model.specs.Run.{Run, begin, Attempt, rowAtRun, moveTo, moved, runFrom, Standstill}
 use Rattle.model.specs.History.{historyFrom, history, bufferFrom}
-use Rattle.model.proofs.Lists.{follow-move}
+use Rattle.model.proofs.Lists.{through-more}
 use Rattle.model.proofs.Attempts.{choice-intro, move-is, moved-plan, run-move}
 use Rattle.model.proofs.History.{history-move, buffer-move}
 use Rattle.why.specs.Game.{Strategy, Position, opening, clientAfter, Chosen, proceed, CanBeMade, Played, played-none, played-on, Hangs, BreaksLimits, EndsBadly, PlanFails}
@@ -37,7 +37,7 @@ module _ (rows : List (List Move)) where
 
   -- the plan as a strategy
   pub planned : Strategy
-  planned made code = given (follow step 0 (made ++ code ∷ []))
+  planned made code = given (through step 0 (made ++ code ∷ []))
 
 module _ (user new : Contract) (rows : List (List Move)) where
   -- client and service go on in a run as in a play
@@ -63,7 +63,7 @@ module _ (user new : Contract) (rows : List (List Move)) where
       is : runFrom user new rows begin attempts ≡ r
       client : r .client ≡ x .client
       service : r .service ≡ x .service
-      plan : follow (step rows) 0 (x .history) ≡ some (r .plan)
+      plan : through (step rows) 0 (x .history) ≡ some (r .plan)
       made : history user new rows attempts ≡ x .history
       buffer : bufferFrom limits (start .buffer) (x .history) ≡ some (x .buffer)
 
@@ -73,9 +73,9 @@ module _ (user new : Contract) (rows : List (List Move)) where
       abbrev r : Run
       r = d .r
 
-      row-is : (code : ℕ) → follow (step rows) 0 (x .history ++ code ∷ []) ≡ held (rowAtRun user new rows r) code
+      row-is : (code : ℕ) → through (step rows) 0 (x .history ++ code ∷ []) ≡ held (rowAtRun user new rows r) code
       unfolding rowAtRun step
-      row-is code = follow-move (step rows) (x .history) 0 (r .plan) code (d .plan)
+      row-is code = through-more (step rows) (x .history) 0 (r .plan) code (d .plan)
 
       choosing : (R S : ℕ) → Chosen user new x R S → List·Memᴰ R (state user (r .client) .ready) × List·Memᴰ S (state new (r .service) .ready)
       choosing R S c = (
@@ -135,7 +135,7 @@ module _ (user new : Contract) (rows : List (List Move)) where
     -- ---- every position of a play
 
     as-run : {x : Position} → Played limits user new (planned rows) x → AsRun x
-    unfolding opening begin runFrom historyFrom bufferFrom follow proceed
+    unfolding opening begin runFrom historyFrom bufferFrom through proceed
     as-run played-none = record { attempts = []; r = begin; is = refl; client = refl; service = refl; plan = refl; made = refl; buffer = refl }
     as-run (played-on {x = x} {b = b} R S code p chosen can e) =
         let d = as-run p in

@@ -137,13 +137,23 @@ RefusedForGood =
     → connectOf blank k old new work plan .answer .number ≡ 12
     → Defeats (alike k) (contractIn old) (contractIn new) (demanding (contractIn old))
 
--- one strategy serves every client that complies with the old contract: no play ends badly
-pub record Served (limits : List ℕ) (old new : Contract) : Type 0 where
-  pub offer : Strategy
-  pub serves : (user : Contract) → Complies user old → EndsBadly limits user new offer → ⊥
+-- a strategy serves a client: no play ends badly
+abbrev pub Serves : List ℕ → (user new : Contract) → Strategy → Type 0
+Serves limits user new offer = EndsBadly limits user new offer → ⊥
 
--- Theorem 3.8 as a game: some strategy serves all complying clients exactly if some relation of definition 3.7 holds the start.
+-- definition 3.2: each client that complies with the old contract is served by a strategy, which may be for this client alone
+abbrev pub EachServed : List ℕ → (old new : Contract) → Type 0
+EachServed limits old new = (user : Contract) → Complies user old → (offer : Strategy) × Serves limits user new offer
+
+-- one strategy serves them all: the universal orchestrator of definition 3.5
+pub record AllServed (limits : List ℕ) (old new : Contract) : Type 0 where
+  pub offer : Strategy
+  pub serves : (user : Contract) → Complies user old → Serves limits user new offer
+
+-- Theorem 3.8, and proposition 3.6 with it: each complying client is served exactly if some relation of definition 3.7 holds the start, and
+-- then one strategy serves them all.
 abbrev pub GameDecides : Type 1
 GameDecides =
     (limits : List ℕ) (old new : List ℕ) (sheets : Both) → readBoth 0 0 old new ≡ good sheets
-    → Served limits (sheets .one) (sheets .two) ↔ Largest limits (sheets .one) (sheets .two) start
+    → (EachServed limits (sheets .one) (sheets .two) ↔ Largest limits (sheets .one) (sheets .two) start)
+    × (AllServed limits (sheets .one) (sheets .two) ↔ Largest limits (sheets .one) (sheets .two) start)
