@@ -44,7 +44,8 @@ module _ (R S : ℕ) where
 
       go : (a : Bool) → (a ≡ true → code ≤ 13) → (b : Bool) → (b ≡ true → 16 ≤ code) → (c : Bool) → (c ≡ true → code ≤ 29)
           → (d : Bool) → (d ≡ true → 32 ≤ code) → (e : Bool) → (e ≡ true → code ≤ 45)
-          → T (need R S (cond a (straight code) (cond (b && c) (client (code - 16)) (cond (d && e) (service (code - 32)) stray)))) → List·Memᴰ code codes
+          → T (need R S (cond a (straight code) (cond (b && c) (client (code - 16)) (cond (d && e) (service (code - 32)) stray))))
+          → List·Memᴰ code codes
       go true f b g c h d i e k t = code-straight code (omega (arith, f refl))
       go false f true g true h d i e k t = back 16 (g refl) (code-client (code - 16) (omega (arith, g refl, h refl)))
       go false f true g false h true i true k t = back 32 (i refl) (code-service (code - 32) (omega (arith, i refl, k refl)))
@@ -72,6 +73,10 @@ module _ (user new : Contract) (rows : List (List Move)) where
 
   -- ---- a move
 
+  -- the attempt's masks are a choice, and its need is met
+  abbrev meets : Run → Attempt → Bool
+  meets r a = choice user new rows r (a .R) (a .S) && need (a .R) (a .S) (kindOf (a .code))
+
   -- it is by a choice, its need is met, and the row holds it
   pub record IsMove (r : Run) (a : Attempt) (to : ℕ) : Type 0 where
     pub chosen : T (choice user new rows r (a .R) (a .S))
@@ -81,14 +86,14 @@ module _ (user new : Contract) (rows : List (List Move)) where
   pub is-move : (r : Run) (a : Attempt) (to : ℕ) → moveTo user new rows r a ≡ some to → IsMove r a to
   unfolding moveTo
   is-move r a to e =
-      let w = cond-some (choice user new rows r (a .R) (a .S) && need (a .R) (a .S) (kindOf (a .code))) (held (rowAtRun user new rows r) (a .code)) to e in
+      let w = cond-some (meets r a) (held (rowAtRun user new rows r) (a .code)) to e in
       let v = and-both (choice user new rows r (a .R) (a .S)) (need (a .R) (a .S) (kindOf (a .code))) (w .0) in
       record { chosen = v .0; needed = v .1; holds = w .1 }
 
   pub move-is : (r : Run) (a : Attempt) (to : ℕ) → IsMove r a to → moveTo user new rows r a ≡ some to
   unfolding moveTo
   move-is r a to m =
-      cond-yes (choice user new rows r (a .R) (a .S) && need (a .R) (a .S) (kindOf (a .code))) (held (rowAtRun user new rows r) (a .code)) none
+      cond-yes (meets r a) (held (rowAtRun user new rows r) (a .code)) none
       (and-of (choice user new rows r (a .R) (a .S)) (need (a .R) (a .S) (kindOf (a .code))) (m .chosen) (m .needed))
       ∙ m .holds
 
@@ -103,7 +108,8 @@ module _ (user new : Contract) (rows : List (List Move)) where
   -- ---- a list of attempts
 
   -- the run after a list and one attempt more that is a move
-  pub run-move : (before : List Attempt) (r : Run) (a : Attempt) (to : ℕ) → moveTo user new rows (runFrom user new rows r before) a ≡ some to
+  pub run-move : (before : List Attempt) (r : Run) (a : Attempt) (to : ℕ)
+      → moveTo user new rows (runFrom user new rows r before) a ≡ some to
       → runFrom user new rows r (before ++ a ∷ []) ≡ moved user new rows (runFrom user new rows r before) (kindOf (a .code)) to
   unfolding runFrom attempted movedIf
   run-move [] r a to e = ap (movedIf user new rows r (kindOf (a .code))) e

@@ -42,7 +42,8 @@ answer-admitted records room k old new = go (readBoth 0 0 old new) refl (both-nu
     at-rank sheets e false l f = absurd (f (omega arith) (omega arith))
 
     go : (r : Reading Refusal Both) → readBoth 0 0 old new ≡ r → OnlyRefused (λ (r : Refusal). (1 ≤ r .number) × (r .number ≤ 9)) r
-        → (1 ≤ ranked k records room r .answer .number → ranked k records room r .answer .number ≤ 10 → ⊥) → (sheets : Both) × Admitted k old new sheets
+        → (1 ≤ ranked k records room r .answer .number → ranked k records room r .answer .number ≤ 10 → ⊥)
+        → (sheets : Both) × Admitted k old new sheets
     go (refusal r) e o f = absurd (f (o .0) (omega (arith, o .1)))
     go (good sheets) e o f = at-rank sheets e (leb k 3) refl f
 

@@ -39,7 +39,8 @@ module _ (limits : List ℕ) (old new : Contract) (old-formed : WellFormed old) 
   -- every buffer within the limits with every state of the old contract and every state of the new one
   board : List Situation
   board =
-      combine (λ f q. f q) (combine situation (counts 14 (λ i. getD limits i 0)) (upto 0 (length (old .states)))) (upto 0 (length (new .states)))
+      combine (λ f q. f q) (combine situation (counts 14 (λ i. getD limits i 0)) (upto 0 (length (old .states))))
+      (upto 0 (length (new .states)))
 
   on-board : (s : Situation) → Reached codes (next limits old new) start s → List·Memᴰ s board
   unfolding board
@@ -47,8 +48,10 @@ module _ (limits : List ℕ) (old new : Contract) (old-formed : WellFormed old) 
       let w = reached-within limits old new old-formed new-formed r in
       let k = rank-reached limits old new r in
       combine-intro (λ (f : ℕ → Situation) (q : ℕ). f q)
-      (combine-intro situation (all-counts 14 (λ i. getD limits i 0) (s .buffer) (k .size) (k .bounded)) (below (length (old .states)) (s .old) (w .0)))
+      (combine-intro situation (all-counts 14 (λ i. getD limits i 0) (s .buffer) (k .size) (k .bounded))
+      (below (length (old .states)) (s .old) (w .0)))
       (below (length (new .states)) (s .new) (w .1))
 
   pub some-search-whole : (limit : ℕ) × (searchFrom same codes (next limits old new) limit start .todo ≡ [])
-  some-search-whole = (length board, search-whole same is-same codes (next limits old new) start (length board) board (omega arith) on-board)
+  some-search-whole =
+      (length board, search-whole same is-same codes (next limits old new) start (length board) board (omega arith) on-board)

@@ -12,7 +12,8 @@ use Rattle.model.specs.History.{ifMade, historyFrom, bufferFrom}
 use Rattle.model.proofs.Lists.{through-more}
 
 module _ (user new : Contract) (rows : List (List Move)) where
-  pub history-move : (before : List Attempt) (r : Run) (a : Attempt) (to : ℕ) → moveTo user new rows (runFrom user new rows r before) a ≡ some to
+  pub history-move : (before : List Attempt) (r : Run) (a : Attempt) (to : ℕ)
+      → moveTo user new rows (runFrom user new rows r before) a ≡ some to
       → historyFrom user new rows r (before ++ a ∷ []) ≡ historyFrom user new rows r before ++ a .code ∷ []
   unfolding historyFrom runFrom ifMade
   history-move [] r a to e = ap (λ (o : Option ℕ). ifMade o (a .code) []) e

@@ -222,7 +222,13 @@ module _ {A B C : Type 0} (f : A → B → C) where
   unfolding combine
   combine-length [] ys = omega (arith, zero-mul (length ys))
   combine-length (x ∷ xs) ys =
-      omega (arith, length-append (map (f x) ys) (combine f xs ys), length-map ys (f x), combine-length xs ys, suc-mul (length xs) (length ys))
+      omega (
+        arith,
+        length-append (map (f x) ys) (combine f xs ys),
+        length-map ys (f x),
+        combine-length xs ys,
+        suc-mul (length xs) (length ys),
+      )
 
 -- ---- `through`
 

@@ -1,9 +1,9 @@
--- Of each case that document 01's table answers with 12, by computation from the bytes: connecting answers so, the client sheet's contract is
--- the most demanding client, and the client check says yes to it with the old sheet. So it defeats every adapter.
+-- Of each case that document 01's table answers with 12, by computation from the bytes: connecting answers so, the client sheet's contract
+-- is the most demanding client, and the client check says yes to it with the old sheet. So it defeats every adapter.
 -- Assumes nothing.
 use mathlib.Core.Path.{_≡_, refl, subst⁻¹}
 use mathlib.Core.Bool.{true}
-use mathlib.Core.List.{List, map, List·Memᴰ}
+use mathlib.Core.List.{map, List·Memᴰ}
 use Prim.Native.Nat.{ℕ}
 use lib.ListN.{replicate}
 use Rattle.model.specs.Lists.{combine}
@@ -28,11 +28,15 @@ pub record Defeated (c : DefeatedCase) : Type 0 where
   pub checked : compliesOf (c .client) (c .old) ≡ yes
   pub defeats : Defeats (alike (c .k)) (contractIn (c .old)) (contractIn (c .new)) (contractIn (c .client))
 
-numbers : map (λ (c : DefeatedCase). connectCase (c .k) (c .old) (c .new) .answer .number) defeatedCases ≡ map (λ (c : DefeatedCase). 12) defeatedCases
-unfolding defeatedCases connectCase
+numberOf : DefeatedCase → ℕ
+numberOf c = connectCase (c .k) (c .old) (c .new) .answer .number
+
+numbers : map numberOf defeatedCases ≡ map (λ (c : DefeatedCase). 12) defeatedCases
+unfolding defeatedCases connectCase numberOf
 numbers = refl
 
-contracts : map (λ (c : DefeatedCase). contractIn (c .client)) defeatedCases ≡ map (λ (c : DefeatedCase). demanding (contractIn (c .old))) defeatedCases
+contracts : map (λ (c : DefeatedCase). contractIn (c .client)) defeatedCases
+    ≡ map (λ (c : DefeatedCase). demanding (contractIn (c .old))) defeatedCases
 unfolding defeatedCases connectCase sheetOf contractIn combine silent demandsOf demandsOfAll demandingState demanding
 contracts = refl
 
@@ -41,9 +45,9 @@ unfolding defeatedCases connectCase samePair firstPair agree meetOn pairs agreeA
 checks = refl
 
 pub defeated-cases : (c : DefeatedCase) → List·Memᴰ c defeatedCases → Defeated c
-unfolding connectCase
+unfolding connectCase numberOf
 defeated-cases c m =
-    let twelve = agree-at (λ (c : DefeatedCase). connectCase (c .k) (c .old) (c .new) .answer .number) (λ (c : DefeatedCase). 12) m numbers in
+    let twelve = agree-at numberOf (λ (c : DefeatedCase). 12) m numbers in
     let is = agree-at (λ (c : DefeatedCase). contractIn (c .client)) (λ (c : DefeatedCase). demanding (contractIn (c .old))) m contracts in
     record {
       answered = twelve;

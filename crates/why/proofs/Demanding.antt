@@ -78,12 +78,14 @@ module _ (bad : ℕ → Type 0) where
       let v = f r (List·Memᴰ·head refl) in
       let j = v .0 in
       let asked : List·Memᴰ (2 ^ partner j) (demandsOf r) =
-      subst⁻¹ (List·Memᴰ (2 ^ partner j)) (demands-yes r j (v .1) (v .2)) (Memᴰ·map (λ j. 2 ^ partner j) (keep-intro (has r) (action j (v .1)) (v .2))) in (
+      subst⁻¹ (List·Memᴰ (2 ^ partner j)) (demands-yes r j (v .1) (v .2))
+      (Memᴰ·map (λ j. 2 ^ partner j) (keep-intro (has r) (action j (v .1)) (v .2))) in (
         bitOr (2 ^ partner j) (w .0),
         combine-intro bitOr asked (w .1),
         λ i t.
             ⊎-elim
-            (λ u. (j, v .1, power-has (partner j) i u, any-intro (λ mask. has mask j) (List·Memᴰ·head {x = r} {xs = ready} refl) (v .2), v .3))
+            (λ u.
+            (j, v .1, power-has (partner j) i u, any-intro (λ mask. has mask j) (List·Memᴰ·head {x = r} {xs = ready} refl) (v .2), v .3))
             (λ u. let z = w .2 i u in (z .0, z .1, z .2, or-right (has r (z .0)) (any (λ mask. has mask (z .0)) ready) (z .3), z .4))
             (has-or-cases (2 ^ partner j) (w .0) i t),
       )
@@ -100,21 +102,29 @@ demanding-state c q h = go (c .states) q h
     go (s ∷ l) (suc q) h = go l q (omega arith)
 
 -- it goes on as the contract does
-pub demanding-after : (p : State) (j : ℕ) → j < 14 → T (offers (demandingState p) (partner j)) → after (demandingState p) (partner j) ≡ after p j
+pub demanding-after : (p : State) (j : ℕ) → j < 14 → T (offers (demandingState p) (partner j))
+    → after (demandingState p) (partner j) ≡ after p j
 unfolding after offeredBelow demandingState offers actions
 demanding-after p j h o =
-    kept-entry (λ i. after p (partner i)) (offersIn (demandsOfAll (p .ready))) (partner j) o 14 0 (omega arith) (omega (arith, partner-action j h))
+    kept-entry (λ i. after p (partner i)) (offersIn (demandsOfAll (p .ready))) (partner j) o 14 0
+    (omega arith) (omega (arith, partner-action j h))
     ∙ ap (after p) (partner-partner j h)
 
 -- ---- it complies
+
+-- at a state of the contract
+same-state : (c : Contract) (p q : ℕ) → p ≡ q → q < length (c .states) → state (demanding c) p ≡ demandingState (state c q)
+same-state c p q e h = ap (state (demanding c)) e ∙ demanding-state c q h
 
 -- the pairs met are those of equal states
 demanding-met : (c : Contract) {p q : ℕ} → Meet (demanding c) c p q → p ≡ q
 demanding-met c (met-first e f) = e ∙ sym f
 demanding-met c (met-on {p = p} {q = q} j h m a b e f) =
-    let same : p ≡ q = demanding-met c m in
-    let d : state (demanding c) p ≡ demandingState (state c q) = ap (state (demanding c)) same ∙ demanding-state c q (offers-within c q j b) in
-    e ∙ ap (λ (s : State). after s (partner j)) d ∙ demanding-after (state c q) j h (subst (λ (s : State). T (offers s (partner j))) d a) ∙ sym f
+    let d = same-state c p q (demanding-met c m) (offers-within c q j b) in
+    e
+    ∙ ap (λ (s : State). after s (partner j)) d
+    ∙ demanding-after (state c q) j h (subst (λ (s : State). T (offers s (partner j))) d a)
+    ∙ sym f
 
 -- a state with a ready set is one of the contract's
 ready-within : (c : Contract) (q S : ℕ) → List·Memᴰ S (state c q .ready) → q < length (c .states)
@@ -129,5 +139,5 @@ ready-within c q S m = go (c .states) q m
 pub demanding-complies : (c : Contract) → Complies (demanding c) c
 unfolding demandingState
 demanding-complies c p q m R S mR mS apart =
-    let d : state (demanding c) p ≡ demandingState (state c q) = ap (state (demanding c)) (demanding-met c m) ∙ demanding-state c q (ready-within c q S mS) in
+    let d = same-state c p q (demanding-met c m) (ready-within c q S mS) in
     demands-meet R mS (subst (λ (s : State). List·Memᴰ R (s .ready)) d mR) apart

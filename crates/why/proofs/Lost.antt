@@ -68,15 +68,17 @@ module _ (limits : List ℕ) (σ τ : Contract) (σ-formed : WellFormed σ) (τ-
     by-partner j h t =
         let d = demanding-state σ (s .old) within in
         ap (λ (s : State). after s (partner j)) d
-        ∙ demanding-after p j h (subst (λ (s : State). T (offers s (partner j))) d (offers-of (state (demanding σ) (s .old)) R (partner j) (trap .of-client) t))
+        ∙ demanding-after p j h
+        (subst (λ (s : State). T (offers s (partner j))) d (offers-of (state (demanding σ) (s .old)) R (partner j) (trap .of-client) t))
 
     -- the client goes on as the old contract does
-    client-goes : (code : ℕ) → List·Memᴰ code codes → T (need R S (kindOf code))
-        → clientAfter (s .old) (state (demanding σ) (s .old)) (kindOf code) ≡ oldAfter (s .old) p (kindOf code)
+    abbrev GoesAlike : ℕ → Type 0
+    GoesAlike code = clientAfter (s .old) (state (demanding σ) (s .old)) (kindOf code) ≡ oldAfter (s .old) p (kindOf code)
+
+    client-goes : (code : ℕ) → List·Memᴰ code codes → T (need R S (kindOf code)) → GoesAlike code
     unfolding clientAfter oldAfter
     client-goes =
-        code-elim
-        (λ (code : ℕ). T (need R S (kindOf code)) → clientAfter (s .old) (state (demanding σ) (s .old)) (kindOf code) ≡ oldAfter (s .old) p (kindOf code))
+        code-elim (λ (code : ℕ). T (need R S (kindOf code)) → GoesAlike code)
         (λ j h t. rw (kind-straight j h) (by-partner j h (need-straight R S j h t .1)))
         (λ j h t. rw (kind-client j h) (by-partner j h (need-client R S j h t)))
         (λ j h t. rw (kind-service j h) refl)
@@ -110,7 +112,8 @@ module _ (limits : List ℕ) (σ τ : Contract) (σ-formed : WellFormed σ) (τ-
     chosen made = record { of-client = trap .of-client; of-service = trap .of-service }
 
     -- a code can be made: the buffer does not allow it, or it leads to what was removed earlier
-    by-code : (made : List ℕ) → Played limits (demanding σ) τ offer (standing s made) → (code : ℕ) → CanBeMade offer (standing s made) (trap .R) (trap .S) code → Ends
+    by-code : (made : List ℕ) → Played limits (demanding σ) τ offer (standing s made)
+        → (code : ℕ) → CanBeMade offer (standing s made) (trap .R) (trap .S) code → Ends
     unfolding standing
     by-code made played code can = go (bufferAfter limits (s .buffer) (kindOf code)) refl
       where
@@ -125,7 +128,8 @@ module _ (limits : List ℕ) (σ τ : Contract) (σ-formed : WellFormed σ) (τ-
             let A = movesInto same codes nx there s in
             let known = need-code (trap .R) (trap .S) code (can .needed) in
             let t = behind limits σ τ s b (kindOf code) in
-            let leads : nx s code ≡ some t = next-intro limits σ τ s code (kindOf code) b refl (action-offered A s within trap code known (can .needed)) x in
+            let offered-now = action-offered A s within trap code known (can .needed) in
+            let leads : nx s code ≡ some t = next-intro limits σ τ s code (kindOf code) b refl offered-now x in
             lost-but t (by-move code known leads reached)
             (λ m. trap .shut code known (can .needed) (moves-intro same is-same codes nx there s code t known leads m))
             (made ++ code ∷ [])
@@ -175,7 +179,8 @@ module _ (limits : List ℕ) (σ τ : Contract) (σ-formed : WellFormed σ) (τ-
   settle-lost : (fuel : ℕ) (there : List Situation) → LostBut there → LostBut (settle same codes nx (test σ τ) fuel there .kept)
   settle-lost zero there lost-but = unfold settle in lost-but
   settle-lost (suc fuel) there lost-but =
-      ⊎-elim (λ w. rw (w .1) lost-but) (λ w. rw (w .1) (settle-lost fuel (round same codes nx (test σ τ) there) (round-lost there lost-but)))
+      ⊎-elim (λ w. rw (w .1) lost-but)
+      (λ w. rw (w .1) (settle-lost fuel (round same codes nx (test σ τ) there) (round-lost there lost-but)))
       (settle-step same is-same codes nx (test σ τ) fuel there)
 
   -- if the rounds over all that is reached remove the start, every strategy ends badly

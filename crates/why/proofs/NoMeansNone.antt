@@ -50,7 +50,8 @@ module _ (limits : List ℕ) (σ τ : Contract) (σ-formed : WellFormed σ) (τ-
 
   every-strategy : (Largest limits σ τ start → ⊥) → (offer : Strategy) → EndsBadly limits (demanding σ) τ offer
   every-strategy none-holds offer =
-      start-lost limits σ τ σ-formed τ-formed offer (searchFrom same codes nx limit start .done) (search-all same is-same codes nx start limit whole)
+      start-lost limits σ τ σ-formed τ-formed offer (searchFrom same codes nx limit start .done)
+      (search-all same is-same codes nx start limit whole)
       (λ m. none-holds (kept-is-largest limits σ τ limit whole start m))
 
   defeated : (Largest limits σ τ start → ⊥) → Defeats limits σ τ (demanding σ)

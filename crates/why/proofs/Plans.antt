@@ -1,5 +1,5 @@
--- A plan is a strategy: it offers what the row of the state after the history holds. A play against it is a run whose attempts are all moves,
--- so a bad end of the one is a failure of the other.
+-- A plan is a strategy: it offers what the row of the state after the history holds. A play against it is a run whose attempts are all
+-- moves, so a bad end of the one is a failure of the other.
 -- Assumes nothing.
 use mathlib.Core.Path.{_≡_, refl, sym, ap, subst, subst⁻¹, _∙_}
 use mathlib.Core.Bool.{Bool, true, false}
@@ -41,14 +41,16 @@ module _ (rows : List (List Move)) where
 
 module _ (user new : Contract) (rows : List (List Move)) where
   -- client and service go on in a run as in a play
-  moved-client : (r : Run) (kind : Kind) (to : ℕ) → moved user new rows r kind to .client ≡ clientAfter (r .client) (state user (r .client)) kind
+  moved-client : (r : Run) (kind : Kind) (to : ℕ)
+      → moved user new rows r kind to .client ≡ clientAfter (r .client) (state user (r .client)) kind
   unfolding moved clientAfter
   moved-client r (straight j) to = refl
   moved-client r (client j) to = refl
   moved-client r (service j) to = refl
   moved-client r stray to = refl
 
-  moved-service : (r : Run) (kind : Kind) (to : ℕ) → moved user new rows r kind to .service ≡ newAfter (r .service) (state new (r .service)) kind
+  moved-service : (r : Run) (kind : Kind) (to : ℕ)
+      → moved user new rows r kind to .service ≡ newAfter (r .service) (state new (r .service)) kind
   unfolding moved newAfter
   moved-service r (straight j) to = refl
   moved-service r (client j) to = refl
@@ -77,7 +79,8 @@ module _ (user new : Contract) (rows : List (List Move)) where
       unfolding rowAtRun step
       row-is code = through-more (step rows) (x .history) 0 (r .plan) code (d .plan)
 
-      choosing : (R S : ℕ) → Chosen user new x R S → List·Memᴰ R (state user (r .client) .ready) × List·Memᴰ S (state new (r .service) .ready)
+      choosing : (R S : ℕ) → Chosen user new x R S
+          → List·Memᴰ R (state user (r .client) .ready) × List·Memᴰ S (state new (r .service) .ready)
       choosing R S c = (
         subst⁻¹ (λ (p : ℕ). List·Memᴰ R (state user p .ready)) (d .client) (c .of-client),
         subst⁻¹ (λ (q : ℕ). List·Memᴰ S (state new q .ready)) (d .service) (c .of-service),
@@ -89,7 +92,8 @@ module _ (user new : Contract) (rows : List (List Move)) where
           × (held (rowAtRun user new rows r) code ≡ some to)
       unfolding planned
       as-move R S code c can =
-          let w = given-elim (held (rowAtRun user new rows r) code) (subst (λ (o : Option ℕ). T (given o)) (row-is code) (can .is-offered)) in
+          let w = given-elim (held (rowAtRun user new rows r) code)
+          (subst (λ (o : Option ℕ). T (given o)) (row-is code) (can .is-offered)) in
           let m = choosing R S c in (
             w .0,
             subst⁻¹ (λ (r : Run). moveTo user new rows r (record { R = R; S = S; code = code }) ≡ some (w .0)) (d .is)
@@ -136,7 +140,8 @@ module _ (user new : Contract) (rows : List (List Move)) where
 
     as-run : {x : Position} → Played limits user new (planned rows) x → AsRun x
     unfolding opening begin runFrom historyFrom bufferFrom through proceed
-    as-run played-none = record { attempts = []; r = begin; is = refl; client = refl; service = refl; plan = refl; made = refl; buffer = refl }
+    as-run played-none =
+        record { attempts = []; r = begin; is = refl; client = refl; service = refl; plan = refl; made = refl; buffer = refl }
     as-run (played-on {x = x} {b = b} R S code p chosen can e) =
         let d = as-run p in
         let a : Attempt = record { R = R; S = S; code = code } in
@@ -154,7 +159,8 @@ module _ (user new : Contract) (rows : List (List Move)) where
         }
 
 -- a bad end against the plan as a strategy
-pub plan-fails : (limits : List ℕ) (user new : Contract) (rows : List (List Move)) → EndsBadly limits user new (planned rows) → PlanFails limits user new rows
+pub plan-fails : (limits : List ℕ) (user new : Contract) (rows : List (List Move)) → EndsBadly limits user new (planned rows)
+    → PlanFails limits user new rows
 plan-fails limits user new rows w =
     let d = as-run user new rows limits (w .played) in
     ⊎-elim (hanging user new rows limits (w .at) d) (breaking user new rows limits (w .at) d) (w .badly)

@@ -1,5 +1,5 @@
--- A situation that fails the test is a trap: the most demanding client and the new service choose ready sets that need no code of A, and the
--- client's asks for uncovered actions only.
+-- A situation that fails the test is a trap: the most demanding client and the new service choose ready sets that need no code of A, and
+-- the client's asks for uncovered actions only.
 -- Assumes nothing.
 use mathlib.Core.Path.{_≡_, subst⁻¹}
 use mathlib.Core.Logic.{inl, inr}
