@@ -5,19 +5,29 @@ from another way of saying the same thing.
 """
 
 import unittest
+from functools import cache
 
 from .actions import SUCCESS, mask_of, partner
 from .cases import CASES, END, FOR_EVER, M1_NEW, M1_OLD, M1_PLAN, M1_PRINT, A, B, C, NOTHING, either, internally, send, then
 from .chance import Chance
 from .compliance import check_client, complies
 from .connecting import ZERO_RECORD, Answer, connect
+from .game import (
+    OPENING,
+    Board,
+    all_outcomes,
+    can_be_served,
+    ends_badly,
+    most_demanding,
+    safe_positions,
+)
 from .moves import START, Situation, enabled
 from .plans import Plan, read_plan, step, write_plan
 from .program import printed
 from .random_contracts import Shape, mirrored, random_contract, resembling
 from .relation import kept_after_rounds, passes, reached
 from .runs import At, Attempt, run
-from .sheets import CLIENT, SERVICE, Contract, Refusal, read_sheet, state, write_sheet
+from .sheets import CLIENT, SERVICE, Contract, Refusal, offered, read_sheet, state, write_sheet
 
 MARKED = Situation((9,) * 14, 9, 9)
 
@@ -409,6 +419,139 @@ class Runs(unittest.TestCase):
                     )
                 )
         self.assertGreater(longest, 1)
+
+
+def may_end(chance, contract):
+    """The contract with the empty ready set added in about one state of six."""
+    states = [
+        row._replace(ready=tuple(sorted({0, *row.ready}))) if chance.one_in(6) else row
+        for row in contract.states
+    ]
+    return contract._replace(states=tuple(states))
+
+
+def small_pairs(chance, count):
+    """So many pairs with few situations, for one in two alike: their shape, old, new, k, and the
+    situations that are kept."""
+    found = 0
+    while found < count:
+        shape = Shape(chance.between(1, 2), 3, 2, 2, 6, 2)
+        old = may_end(chance, random_contract(chance, shape, SERVICE))
+        alike = resembling(chance, shape, old)
+        new = alike if chance.one_in(2) else random_contract(chance, shape, SERVICE)
+        new, k = may_end(chance, new), chance.below(3)
+        situations = reached(old, new, k, 30)
+        if situations is not None:
+            found += 1
+            yield shape, old, new, k, kept_after_rounds(old, new, situations)[0]
+
+
+def clients_for(chance, shape, old):
+    """Clients that comply with the old contract, of those made in several ways."""
+    demanding = most_demanding(old)
+    made = [
+        mirrored(old, chance),
+        mirrored(resembling(chance, shape, old), chance),
+        resembling(chance, shape, demanding),
+        random_contract(chance, shape, CLIENT),
+    ]
+    return [user for user in made if complies(user, old)]
+
+
+class Game(unittest.TestCase):
+    """Whether some strategy serves the most demanding client of the old contract is to be what
+    the relation says (document 000, theorem 3.8)."""
+
+    def test_most_demanding_by_hand(self):
+        a, b, sends_a, sends_b = (mask_of(action) for action in (A, B, send(A), send(B)))
+        for name, ready, expected in [
+            ("a+b", [a | b], [sends_a, sends_b]),
+            ("a(+)b", [a, b], [sends_a | sends_b]),
+            ("the end", [0], [SUCCESS]),
+            ("the end or a", [0, a], [sends_a | SUCCESS]),
+            ("!a(+)(a+b)", [a | b, sends_a], [a | sends_a, a | sends_b]),
+            (
+                "(a+b)(+)(a+!b)",
+                [a | b, a | sends_b],
+                [sends_a, b | sends_a, sends_a | sends_b, b | sends_b],
+            ),
+        ]:
+            with self.subTest(name):
+                row = state(ready, [1, 2, 3][: len(offered(ready))])
+                made = most_demanding(service(2, [row, END, END, END]))
+                self.assertEqual(made.states[0].ready, tuple(sorted(expected)))
+                turned = {partner(action): after for action, after in row.successor.items()}
+                self.assertEqual(made.states[0].successor, turned)
+                self.assertEqual(made.states[1:], (state([SUCCESS], []),) * 3)
+
+    def test_cases(self):
+        for case in CASES:
+            old, new = case.contracts()
+            with self.subTest(case.name):
+                self.assertTrue(complies(most_demanding(old), old))
+                served = can_be_served(most_demanding(old), new, case.k)
+                self.assertEqual(0 if served else 12, case.number)
+
+    def test_most_demanding_is_served_where_the_start_is_kept(self):
+        """The states of the most demanding client being those of the old contract, the safe
+        positions are also the kept situations, one by one."""
+        verdicts = {True: 0, False: 0}
+        for _, old, new, k, kept in small_pairs(Chance(4), 2500):
+            demanding = most_demanding(old)
+            self.assertTrue(complies(demanding, old))
+            safe = safe_positions(Board(demanding, new, k))
+            self.assertEqual(OPENING in safe, START in kept)
+            self.assertEqual(safe, kept)
+            verdicts[START in kept] += 1
+        self.assertGreater(min(verdicts.values()), 500)
+
+    def test_complying_clients_are_served_if_accepted(self):
+        """Counted are the clients that have more to do at the start than to succeed."""
+        chance, served, refused = Chance(5), 0, 0
+        for shape, old, new, k, kept in small_pairs(chance, 500):
+            if START not in kept:
+                refused += 1
+                self.assertFalse(can_be_served(most_demanding(old), new, k))
+                continue
+            for user in clients_for(chance, shape, old):
+                self.assertTrue(can_be_served(user, new, k))
+                served += any(not ready & SUCCESS for ready in user.states[0].ready)
+        self.assertGreater(min(served, refused), 100)
+
+    def test_safe_is_where_some_strategy_lasts(self):
+        """Every set of codes is tried as the offer after every history, for as many moves as there
+        are positions: within so many, each position that will fall has fallen."""
+        chance, tried = Chance(6), {True: 0, False: 0}
+        for shape, _, new, k, _ in small_pairs(chance, 400):
+            board = Board(random_contract(chance, shape, CLIENT), new, k)
+            found = all_outcomes(board)
+            if len(found) > 12 or max(map(len, found.values())) > 5:
+                continue
+
+            @cache
+            def offers(position):
+                """The offers with which no play ends badly there."""
+                codes = list(found[position])
+                every = (
+                    [code for i, code in enumerate(codes) if choice >> i & 1]
+                    for choice in range(1 << len(codes))
+                )
+                return [offer for offer in every if not ends_badly(board, position, offer)]
+
+            @cache
+            def lasts(position, moves):
+                """Whether some strategy lets no play end badly within so many moves."""
+                if moves == 0:
+                    return offers(position) != []
+                return any(
+                    all(lasts(found[position][code], moves - 1) for code in offer)
+                    for offer in offers(position)
+                )
+
+            lasting = {position for position in found if lasts(position, len(found))}
+            self.assertEqual(safe_positions(board), lasting)
+            tried[len(lasting) == len(found)] += 1
+        self.assertGreater(min(tried.values()), 50)
 
 
 class Program(unittest.TestCase):
