@@ -460,7 +460,7 @@ def clients_for(chance, shape, old):
 
 class Game(unittest.TestCase):
     """Whether some strategy serves the most demanding client of the old contract is to be what
-    the relation says (document 000, theorem 3.8)."""
+    the relation says (Padovani 2010, theorem 3.8)."""
 
     def test_most_demanding_by_hand(self):
         a, b, sends_a, sends_b = (mask_of(action) for action in (A, B, send(A), send(B)))
