@@ -18,6 +18,7 @@ use Rattle.model.specs.Plan.{Move, held, planStates, planBytes, readPlan
 use Rattle.model.specs.Connect.{Outcome, refused, counted, settledOf, rowsFor, connected, limitOf, outcomeOf, connectOf}
 use Rattle.model.specs.Client.{Complies}
 use Rattle.model.specs.Run.{Run, begin, Attempt, rowAtRun, runFrom, mostAlone, Standstill}
+use Rattle.model.specs.History.{history, bufferFrom}
 use Rattle.model.specs.Demands.{emittedPlan, Admitted, IsReached, number, Follows, Runs, Demand-3}
 use Rattle.model.proofs.Rounds.{Closed, settled-closed, settled-from}
 use Rattle.model.proofs.Situation.{is-same}
@@ -26,24 +27,27 @@ use Rattle.model.proofs.Weak.{is-reached, rank-reached}
 use Rattle.model.proofs.Sheet.{WellFormed, both-well-formed, both-contracts}
 use Rattle.model.proofs.PlanRows.{mem-at}
 use Rattle.model.proofs.Bound.{allowed-alike}
-use Rattle.model.proofs.Run.{Tied, tied-begin, tied-run, no-standstill, few-alone}
+use Rattle.model.proofs.Run.{Tied, tied-begin, tied-run, history-allowed, no-standstill, few-alone}
 use Rattle.model.proofs.Connect.{Shape, cut-off, removed, too-long, fits, shape, emitted-reads, emitted-rows, rows-states}
 use Rattle.model.proofs.Demand2.{limit-few, answer-admitted, admitted-outcome, emitted-is}
+
+-- what the rounds keep of a search, and the plan of that
+abbrev keptOf : (k limit : ℕ) → (σ τ : Contract) → List Situation
+keptOf k limit σ τ = settledOf k σ τ (searchFrom same codes (next (alike k) σ τ) limit start .done) .kept
+
+abbrev planOf : (k limit : ℕ) → (σ τ : Contract) → List ℕ
+planOf k limit σ τ = planBytes (σ .n) k (rowsFor k σ τ (keptOf k limit σ τ))
 
 -- what acceptance gives
 record Accepted (k limit room : ℕ) (old new : List ℕ) : Type 0 where
   sheets : Both
   admitted : Admitted k old new sheets
   whole : searchFrom same codes (next (alike k) (sheets .one) (sheets .two)) limit start .todo ≡ []
-  begun : List·Memᴰ start (settledOf k (sheets .one) (sheets .two) (searchFrom same codes (next (alike k) (sheets .one) (sheets .two)) limit start .done) .kept)
+  begun : List·Memᴰ start (keptOf k limit (sheets .one) (sheets .two))
   situations : ℕ
   states : ℕ
   rounds : ℕ
-  emits : connected k (sheets .one) (sheets .two) limit room
-      ≡ counted 0 situations states rounds
-      (planBytes (sheets .one .n) k
-      (rowsFor k (sheets .one) (sheets .two)
-      (settledOf k (sheets .one) (sheets .two) (searchFrom same codes (next (alike k) (sheets .one) (sheets .two)) limit start .done) .kept)))
+  emits : connected k (sheets .one) (sheets .two) limit room ≡ counted 0 situations states rounds (planOf k limit (sheets .one) (sheets .two))
 
 accepted-shape : (k limit room : ℕ) (old new : List ℕ) (sheets : Both) → Admitted k old new sheets → connected k (sheets .one) (sheets .two) limit room .answer .number ≡ 0
     → Shape k (sheets .one) (sheets .two) limit room → Accepted k limit room old new
@@ -74,13 +78,13 @@ module _ (k limit : ℕ) (limit-ok : limit ≤ 4096) (room : ℕ) (old new : Lis
   reachedAll = searchFrom same codes (next (alike k) σ τ) limit start .done
 
   abbrev kept : List Situation
-  kept = settledOf k σ τ reachedAll .kept
+  kept = keptOf k limit σ τ
 
   abbrev rows : List (List Move)
   rows = rowsFor k σ τ kept
 
   abbrev bytes : List ℕ
-  bytes = planBytes (σ .n) k rows
+  bytes = planOf k limit σ τ
 
   formed : WellFormed σ × WellFormed τ × (σ .n ≡ τ .n)
   formed = both-well-formed 0 0 old new (c .sheets) (c .admitted .reads)
@@ -150,13 +154,50 @@ module _ (k limit : ℕ) (limit-ok : limit ≤ 4096) (room : ℕ) (old new : Lis
         few-alone = subst⁻¹ (λ (rs : List (List Move)). mostAlone user τ rs attempts ≤ 2 * k * τ .n) rows-back run-alone;
       }
 
+  -- the buffer allows every move of the run
+  allowed-all : (b : List ℕ) × (bufferFrom (alike k) (start .buffer) (history user τ (rowsIn bytes) attempts) ≡ some b)
+  unfolding rowsFor
+  allowed-all =
+      subst⁻¹ (λ (rs : List (List Move)). (b : List ℕ) × (bufferFrom (alike k) (start .buffer) (history user τ rs attempts) ≡ some b)) rows-back
+      (history-allowed (alike k) user σ τ kept (c .begun) attempts)
+
+-- ---- over connecting's outcome
+
+module _ {R : Type 0} (blank : R) (k : ℕ) (old new : List ℕ) (work : List R) (plan : List ℕ)
+    (z : connectOf blank k old new work plan .answer .number ≡ 0) where
+  abbrev emitted : List ℕ
+  emitted = emittedPlan (connectOf blank k old new work plan)
+
+  abbrev limit : ℕ
+  limit = limitOf (length work)
+
+  given : Accepted k limit (length plan) old new
+  unfolding connectOf
+  given = accepted (length work) (length plan) k old new z
+
+  -- what holds of the two contracts and the plan that acceptance gives holds of the bytes passed and emitted
+  over-bytes : (P : Contract → Contract → List ℕ → Type 0)
+      → ((c : Accepted k limit (length plan) old new) → P (c .sheets .one) (c .sheets .two) (planOf k limit (c .sheets .one) (c .sheets .two)))
+      → P (contractIn old) (contractIn new) emitted
+  over-bytes P f =
+      let c = given in
+      let are = both-contracts 0 0 old new (c .sheets) (c .admitted .reads) in
+      let emits = emitted-is blank k old new (c .sheets) work (c .admitted) plan (c .situations) (c .states) (c .rounds) (c .emits) in
+      subst⁻¹ (λ (o : Contract). P o (contractIn new) emitted) (are .0)
+      (subst⁻¹ (λ (n : Contract). P (c .sheets .one) n emitted) (are .1) (subst⁻¹ (P (c .sheets .one) (c .sheets .two)) emits (f c)))
+
+  -- runs of the emitted plan, whatever contract the client has
+  pub emitted-runs : (user : Contract) (attempts : List Attempt) → Runs k user (contractIn old) (contractIn new) emitted attempts
+  emitted-runs user attempts =
+      over-bytes (λ o n b. Runs k user o n b attempts)
+      (λ c. runs k limit (limit-few (length work)) (length plan) old new c user attempts)
+
+  -- and their buffer allows every move
+  pub emitted-allowed : (user : Contract) (attempts : List Attempt)
+      → (b : List ℕ) × (bufferFrom (alike k) (start .buffer) (history user (contractIn new) (rowsIn emitted) attempts) ≡ some b)
+  emitted-allowed user attempts =
+      over-bytes (λ o n b. (l : List ℕ) × (bufferFrom (alike k) (start .buffer) (history user n (rowsIn b) attempts) ≡ some l))
+      (λ c. allowed-all k limit (limit-few (length work)) (length plan) old new c user attempts)
+
 pub demand-3 : Demand-3
-unfolding connectOf
-demand-3 R blank k old new work plan client user attempts z read =
-    let c = accepted (length work) (length plan) k old new z in
-    let are = both-contracts 0 0 old new (c .sheets) (c .admitted .reads) in
-    let emits = emitted-is blank k old new (c .sheets) work (c .admitted) plan (c .situations) (c .states) (c .rounds) (c .emits) in
-    subst⁻¹ (λ (o : Contract). Runs k (user .contract) o (contractIn new) (emittedPlan (connectOf blank k old new work plan)) attempts) (are .0)
-    (subst⁻¹ (λ (n : Contract). Runs k (user .contract) (c .sheets .one) n (emittedPlan (connectOf blank k old new work plan)) attempts) (are .1)
-    (subst⁻¹ (λ (b : List ℕ). Runs k (user .contract) (c .sheets .one) (c .sheets .two) b attempts) emits
-    (runs k (limitOf (length work)) (limit-few (length work)) (length plan) old new c (user .contract) attempts)))
+demand-3 R blank k old new work plan client user attempts z read = emitted-runs blank k old new work plan z (user .contract) attempts

@@ -5,17 +5,19 @@
 use mathlib.Core.Path.{_≡_, refl, sym, ap, subst, subst⁻¹, _∙_}
 use mathlib.Core.Bool.{Bool, true, false}
 use mathlib.Core.Logic.{⊎-elim}
-use mathlib.Core.Option.{Option, none, some, Option·some-injective}
+use mathlib.Core.Option.{Option, none, some, Option·some-injective, bind}
 use mathlib.Core.List.{List, [], _∷_, List·Memᴰ}
 use Prim.Native.Nat.{ℕ, suc, _+_, _-_, _≤_, _<_}
 use native.Mathlib.Omega.{arith}
 use lib.ListN.{getElem?}
 use lib.Dec.{T}
+use Rattle.model.specs.Lists.{through}
 use Rattle.model.specs.Contract.{Contract, partner, has, state, offers, after, name}
-use Rattle.model.specs.Situation.{Situation, Kind, straight, client, service, kindOf, start, same, codes, offered, oldAfter, newAfter, next}
+use Rattle.model.specs.Situation.{Situation, Kind, straight, client, service, kindOf, start, same, codes, bufferAfter, offered, oldAfter, newAfter, next}
 use Rattle.model.specs.Plan.{Move, held, planStates, rowOf, planRows}
 use Rattle.model.specs.Client.{Meet, met-first, met-on, Complies}
 use Rattle.model.specs.Run.{Run, begin, Attempt, need, isAlone, ifMove, longest, rowAtRun, moveTo, moved, movedIf, attempted, runFrom, alonesFrom, mostAlone, Standstill}
+use Rattle.model.specs.History.{ifMade, historyFrom, history, bufferFrom}
 use Rattle.model.specs.Weak.{Rank}
 use Rattle.model.proofs.Lists.{and-both, and-of}
 use Rattle.model.proofs.Rounds.{Step, Closed, moves-intro}
@@ -138,6 +140,45 @@ module _ (limits : List ℕ) (user old new : Contract) (kept : List Situation) (
   tied-run [] r d = d
   tied-run (a ∷ attempts) r d = tied-run attempts (attempted user new rows r a) (tied-attempted r a d)
 
+  -- the situation that a move of the run leads to is that of the next tie
+  moved-at : (r : Run) (d : Tied r) (a : Attempt) (to : ℕ) (d′ : Tied (moved user new rows r (kindOf (a .code)) to)) → IsMove user new rows r a to
+      → List·Memᴰ (a .code) codes × (nx (d .at) (a .code) ≡ some (d′ .at))
+  moved-at r d a to d′ m =
+      let w = held-move r d (a .code) to (m .holds) in
+      let t = w .1 .0 in
+      let plan = moved-plan user new rows r (kindOf (a .code)) (a .R) (a .S) to (m .needed) in
+      let q : t ≡ d′ .at = Option·some-injective t (d′ .at) (sym (w .1 .3) ∙ ap (getElem? states) (sym plan) ∙ d′ .here) in
+      (w .0, w .1 .1 ∙ ap some q)
+
+  -- ---- the buffer of a run's history
+
+  -- the buffer allows every move
+  allowed-from : (attempts : List Attempt) (r : Run) (d : Tied r)
+      → (b : List ℕ) × (bufferFrom limits (d .at .buffer) (historyFrom user new rows r attempts) ≡ some b)
+  unfolding historyFrom attempted movedIf ifMade bufferFrom through bind
+  allowed-from [] r d = (d .at .buffer, refl)
+  allowed-from (a ∷ attempts) r d = go (moveTo user new rows r a) refl (λ r d. allowed-from attempts r d)
+    where
+      go : (o : Option ℕ) → moveTo user new rows r a ≡ o
+          → ((r : Run) (d : Tied r) → (b : List ℕ) × (bufferFrom limits (d .at .buffer) (historyFrom user new rows r attempts) ≡ some b))
+          → (b : List ℕ)
+          × (bufferFrom limits (d .at .buffer)
+          (ifMade o (a .code) (historyFrom user new rows (movedIf user new rows r (kindOf (a .code)) o) attempts)) ≡ some b)
+      go none e ih = ih r d
+      go (some to) e ih =
+          let m = is-move user new rows r a to e in
+          let d′ = tied-moved r a to d m in
+          let x = next-elim limits old new (d .at) (a .code) (kindOf (a .code)) (d′ .at) refl (moved-at r d a to d′ m .1) .1 in
+          let counts : bufferAfter limits (d .at .buffer) (kindOf (a .code)) ≡ some (d′ .at .buffer) =
+          x .1 ∙ ap (λ (t : Situation). some (t .buffer)) (x .2) in
+          let rest = ih (moved user new rows r (kindOf (a .code)) to) d′ in
+          (rest .0, rw counts (rest .1))
+
+  pub history-allowed : (attempts : List Attempt)
+      → (b : List ℕ) × (bufferFrom limits (start .buffer) (history user new rows attempts) ≡ some b)
+  unfolding tied-begin
+  history-allowed attempts = allowed-from attempts begin tied-begin
+
   -- ---- no standstill
 
   module _ (closed : Closed codes nx (PassesAt old new) (λ (s : Situation). List·Memᴰ s kept)) (complies : Complies user old) where
@@ -192,11 +233,8 @@ module _ (limits : List ℕ) (user old new : Contract) (kept : List Situation) (
     uses-run : (r : Run) (d : Tied r) (a : Attempt) (to : ℕ) (d′ : Tied (moved user new rows r (kindOf (a .code)) to)) → IsMove user new rows r a to
         → T (isAlone (kindOf (a .code))) → leftAt d ≡ suc (leftAt d′)
     uses-run r d a to d′ m l =
-        let w = held-move r d (a .code) to (m .holds) in
-        let t = w .1 .0 in
-        let plan = moved-plan user new rows r (kindOf (a .code)) (a .R) (a .S) to (m .needed) in
-        let q : t ≡ d′ .at = Option·some-injective t (d′ .at) (sym (w .1 .3) ∙ ap (getElem? states) (sym plan) ∙ d′ .here) in
-        subst (λ (t : Situation). leftAt d ≡ suc (left n limits (t .buffer))) q (uses (d .at) t (a .code) (w .0) l (rank-tied r d) (w .1 .1))
+        let w = moved-at r d a to d′ m in
+        uses (d .at) (d′ .at) (a .code) (w .0) l (rank-tied r d) (w .1)
 
     streak-allowed : (attempts : List Attempt) (r : Run) (d : Tied r) (before : ℕ) → before + leftAt d ≤ allowed n limits
         → longest before (alonesFrom user new rows r attempts) ≤ allowed n limits
