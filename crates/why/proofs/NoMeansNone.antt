@@ -1,9 +1,9 @@
 -- No means none: some search is whole, and if no relation of definition 3.7 holds the start the rounds over what it finds remove the start.
--- So it is lost; a plan is one of the strategies. And where the rounds keep the start, it is served.
+-- So it is lost; a plan is one of the strategies. And where the rounds keep the start, it is served, as it is by the emitted plan.
 -- Assumes nothing.
-use mathlib.Core.Path.{_≡_, refl, subst⁻¹}
+use mathlib.Core.Path.{_≡_, refl, sym, subst⁻¹, _∙_}
 use mathlib.Core.Logic.{⊎-elim}
-use mathlib.Core.Option.{Option}
+use mathlib.Core.Option.{Option, Option·none-ne-some}
 use mathlib.Core.List.{List, [], List·Memᴰ}
 use Prim.Native.Nat.{ℕ}
 use native.Mathlib.Omega.{arith}
@@ -26,8 +26,9 @@ use Rattle.model.proofs.Weak.{kept-is-largest, largest-is-kept}
 use Rattle.model.proofs.Finite.{some-search-whole}
 use Rattle.model.proofs.Sheet.{WellFormed, both-well-formed, both-contracts}
 use Rattle.model.proofs.Demand2.{answer-admitted, demand-2}
+use Rattle.model.proofs.Demand3.{emitted-runs, emitted-allowed}
 use Rattle.why.specs.Demanding.{demanding}
-use Rattle.why.specs.Game.{Strategy, EndsBadly, Defeats, NoMeansNone, RefusedForGood, Serves, AllServed, GameDecides}
+use Rattle.why.specs.Game.{Strategy, EndsBadly, Defeats, NoMeansNone, RefusedForGood, EmittedServes, Serves, AllServed, GameDecides}
 use Rattle.why.proofs.Demanding.{demanding-complies}
 use Rattle.why.proofs.Lost.{start-lost}
 use Rattle.why.proofs.Served.{served}
@@ -112,3 +113,11 @@ refused-for-good R blank k old new work plan z =
     subst⁻¹ (λ (o : Contract). Defeats (alike k) o (contractIn new) (demanding o)) (are .0)
     (subst⁻¹ (λ (n : Contract). Defeats (alike k) (sheets .one) n (demanding (sheets .one))) (are .1)
     (no-means-none (alike k) old new sheets (a .1 .reads) none-holds))
+
+-- the emitted plan comes to no standstill without the success mark, and its buffer allows every move
+pub emitted-serves : EmittedServes
+emitted-serves R blank k old new work plan user z complies w =
+    ⊎-elim
+    (λ h. h .3 (emitted-runs blank k old new work plan z user (w .attempts) .no-standstill complies (h .0) (h .1) (h .2)))
+    (λ e. let a = emitted-allowed blank k old new work plan z user (w .attempts) in Option·none-ne-some (a .0) (sym e ∙ a .1))
+    (w .fails)

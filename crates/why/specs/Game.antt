@@ -1,7 +1,7 @@
 -- A no means none: theorem 3.8 of Padovani 2010 as a game, and what is promised of it, as types. They are proved by `no-means-none`,
--- `refused-for-good` and `game-decides` of proofs/NoMeansNone.antt. A strategy plays the adapter: after each history it offers codes, as it
--- likes. The client and the new service choose ready sets, and which of the offered codes is made. Words in quotation marks are document
--- 01's.
+-- `refused-for-good`, `emitted-serves` and `game-decides` of proofs/NoMeansNone.antt. A strategy plays the adapter: after each history it
+-- offers codes, as it likes. The client and the new service choose ready sets, and which of the offered codes is made. Words in quotation
+-- marks are document 01's.
 -- Assumes nothing.
 use mathlib.Core.Path.{_≡_}
 use mathlib.Core.Bool.{Bool}
@@ -19,6 +19,7 @@ use Rattle.model.specs.Client.{Complies}
 use Rattle.model.specs.Run.{begin, Attempt, need, runFrom, Standstill}
 use Rattle.model.specs.History.{history, bufferFrom}
 use Rattle.model.specs.Weak.{Largest}
+use Rattle.model.specs.Demands.{emittedPlan}
 use Rattle.why.specs.Demanding.{demanding}
 
 -- ---- strategies and positions
@@ -136,6 +137,13 @@ RefusedForGood =
     (R : Type 0) (blank : R) (k : ℕ) (old new : List ℕ) (work : List R) (plan : List ℕ)
     → connectOf blank k old new work plan .answer .number ≡ 12
     → Defeats (alike k) (contractIn old) (contractIn new) (demanding (contractIn old))
+
+-- A plan that connecting emits does not fail so, with any client that complies with the old contract.
+abbrev pub EmittedServes : Type 1
+EmittedServes =
+    (R : Type 0) (blank : R) (k : ℕ) (old new : List ℕ) (work : List R) (plan : List ℕ) (user : Contract)
+    → connectOf blank k old new work plan .answer .number ≡ 0 → Complies user (contractIn old)
+    → PlanFails (alike k) user (contractIn new) (rowsIn (emittedPlan (connectOf blank k old new work plan))) → ⊥
 
 -- a strategy serves a client: no play ends badly
 abbrev pub Serves : List ℕ → (user new : Contract) → Strategy → Type 0
