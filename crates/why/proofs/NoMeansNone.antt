@@ -29,9 +29,9 @@ use Rattle.model.proofs.Demand2.{answer-admitted, demand-2}
 use Rattle.model.proofs.Demand3.{emitted-runs, emitted-allowed}
 use Rattle.why.specs.Demanding.{demanding}
 use Rattle.why.specs.Game.{Strategy, EndsBadly, Defeats, NoMeansNone, RefusedForGood, EmittedServes, Serves, AllServed, GameDecides}
+use Rattle.why.proofs.Served.{served}
 use Rattle.why.proofs.Demanding.{demanding-complies}
 use Rattle.why.proofs.Lost.{start-lost}
-use Rattle.why.proofs.Served.{served}
 use Rattle.why.proofs.Plans.{planned, plan-fails}
 
 -- ---- two well-formed contracts
