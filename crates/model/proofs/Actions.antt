@@ -68,7 +68,7 @@ partner-partner j h = go (ltb j 7) refl
 pub partner-injective : (i j : ℕ) → i < 14 → j < 14 → partner i ≡ partner j → i ≡ j
 partner-injective i j h l e = sym (partner-partner i h) ∙ ap partner e ∙ partner-partner j l
 
--- ---- of a list with an entry for each number that passes, the entry of i: as many stand before it as numbers below i pass
+-- ---- of a list with a result for each number that passes, the result of i: as many stand before it as numbers below i pass
 
 module _ (f : ℕ → ℕ) (p : ℕ → Bool) (i : ℕ) (passes : T (p i)) where
   none-below : (count first : ℕ) → i ≤ first → keep (λ x. ltb x i && p x) (upto first count) ≡ []
@@ -76,16 +76,16 @@ module _ (f : ℕ → ℕ) (p : ℕ → Bool) (i : ℕ) (passes : T (p i)) where
   none-below zero first h = refl
   none-below (suc count) first h = rw (le-ltb first i h) (none-below count (suc first) (omega arith))
 
-  abbrev entry : (count first : ℕ) → ℕ
-  entry count first = getD (map f (keep p (upto first count))) (length (keep (λ x. ltb x i && p x) (upto first count))) 0
+  abbrev resultAt : (count first : ℕ) → ℕ
+  resultAt count first = getD (map f (keep p (upto first count))) (length (keep (λ x. ltb x i && p x) (upto first count))) 0
 
-  entry-first : (count : ℕ) → entry (suc count) i ≡ f i
+  result-first : (count : ℕ) → resultAt (suc count) i ≡ f i
   unfolding keep upto
-  entry-first count = rw (le-ltb i i (le-refl i), none-below count (suc i) (omega arith), is-true (p i) passes)
+  result-first count = rw (le-ltb i i (le-refl i), none-below count (suc i) (omega arith), is-true (p i) passes)
 
-  entry-later : (count first : ℕ) → first < i → entry count (suc first) ≡ f i → entry (suc count) first ≡ f i
+  result-later : (count first : ℕ) → first < i → resultAt count (suc first) ≡ f i → resultAt (suc count) first ≡ f i
   unfolding keep upto
-  entry-later count first h r = rw (lt-ltb first i h) (go (p first))
+  result-later count first h r = rw (lt-ltb first i h) (go (p first))
     where
       go : (t : Bool)
           → getD (map f (cond t (first ∷ keep p (upto (suc first) count)) (keep p (upto (suc first) count))))
@@ -93,8 +93,8 @@ module _ (f : ℕ → ℕ) (p : ℕ → Bool) (i : ℕ) (passes : T (p i)) where
       go true = r
       go false = r
 
-  pub kept-entry : (count first : ℕ) → first ≤ i → i < first + count → entry count first ≡ f i
-  kept-entry zero first h l = absurd (omega arith)
-  kept-entry (suc count) first h l =
-      ⊎-elim (λ e. subst⁻¹ (λ (x : ℕ). entry (suc count) x ≡ f i) e (entry-first count))
-      (λ k. entry-later count first k (kept-entry count (suc first) k (omega arith))) (eq-or-lt-of-le h)
+  pub kept-result : (count first : ℕ) → first ≤ i → i < first + count → resultAt count first ≡ f i
+  kept-result zero first h l = absurd (omega arith)
+  kept-result (suc count) first h l =
+      ⊎-elim (λ e. subst⁻¹ (λ (x : ℕ). resultAt (suc count) x ≡ f i) e (result-first count))
+      (λ k. result-later count first k (kept-result count (suc first) k (omega arith))) (eq-or-lt-of-le h)

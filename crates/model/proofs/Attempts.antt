@@ -74,8 +74,8 @@ module _ (user new : Contract) (rows : List (List Move)) where
   -- ---- a move
 
   -- the attempt's masks are a choice, and its need is met
-  abbrev meets : Run → Attempt → Bool
-  meets r a = choice user new rows r (a .R) (a .S) && need (a .R) (a .S) (kindOf (a .code))
+  abbrev possible : Run → Attempt → Bool
+  possible r a = choice user new rows r (a .R) (a .S) && need (a .R) (a .S) (kindOf (a .code))
 
   -- it is by a choice, its need is met, and the row holds it
   pub record IsMove (r : Run) (a : Attempt) (to : ℕ) : Type 0 where
@@ -86,14 +86,14 @@ module _ (user new : Contract) (rows : List (List Move)) where
   pub is-move : (r : Run) (a : Attempt) (to : ℕ) → moveTo user new rows r a ≡ some to → IsMove r a to
   unfolding moveTo
   is-move r a to e =
-      let w = cond-some (meets r a) (held (rowAtRun user new rows r) (a .code)) to e in
+      let w = cond-some (possible r a) (held (rowAtRun user new rows r) (a .code)) to e in
       let v = and-both (choice user new rows r (a .R) (a .S)) (need (a .R) (a .S) (kindOf (a .code))) (w .0) in
       record { chosen = v .0; needed = v .1; holds = w .1 }
 
   pub move-is : (r : Run) (a : Attempt) (to : ℕ) → IsMove r a to → moveTo user new rows r a ≡ some to
   unfolding moveTo
   move-is r a to m =
-      cond-yes (meets r a) (held (rowAtRun user new rows r) (a .code)) none
+      cond-yes (possible r a) (held (rowAtRun user new rows r) (a .code)) none
       (and-of (choice user new rows r (a .R) (a .S)) (need (a .R) (a .S) (kindOf (a .code))) (m .chosen) (m .needed))
       ∙ m .holds
 

@@ -165,36 +165,36 @@ module _ (k limit : ℕ) (limit-ok : limit ≤ 4096) (room : ℕ) (old new : Lis
 
 module _ {R : Type 0} (blank : R) (k : ℕ) (old new : List ℕ) (work : List R) (plan : List ℕ)
     (z : connectOf blank k old new work plan .answer .number ≡ 0) where
-  abbrev emitted : List ℕ
-  emitted = emittedPlan (connectOf blank k old new work plan)
+  abbrev written : List ℕ
+  written = emittedPlan (connectOf blank k old new work plan)
 
   abbrev limit : ℕ
   limit = limitOf (length work)
 
-  given : Accepted k limit (length plan) old new
+  acceptance : Accepted k limit (length plan) old new
   unfolding connectOf
-  given = accepted (length work) (length plan) k old new z
+  acceptance = accepted (length work) (length plan) k old new z
 
-  -- what holds of the two contracts and the plan that acceptance gives holds of the bytes passed and emitted
+  -- what holds of the two contracts and the plan that acceptance gives holds of the bytes passed and written
   over-bytes : (P : Contract → Contract → List ℕ → Type 0)
       → ((c : Accepted k limit (length plan) old new) → P (c .sheets .one) (c .sheets .two) (planOf k limit (c .sheets .one) (c .sheets .two)))
-      → P (contractIn old) (contractIn new) emitted
+      → P (contractIn old) (contractIn new) written
   over-bytes P f =
-      let c = given in
+      let c = acceptance in
       let are = both-contracts 0 0 old new (c .sheets) (c .admitted .reads) in
       let emits = emitted-is blank k old new (c .sheets) work (c .admitted) plan (c .situations) (c .states) (c .rounds) (c .emits) in
-      subst⁻¹ (λ (o : Contract). P o (contractIn new) emitted) (are .0)
-      (subst⁻¹ (λ (n : Contract). P (c .sheets .one) n emitted) (are .1) (subst⁻¹ (P (c .sheets .one) (c .sheets .two)) emits (f c)))
+      subst⁻¹ (λ (o : Contract). P o (contractIn new) written) (are .0)
+      (subst⁻¹ (λ (n : Contract). P (c .sheets .one) n written) (are .1) (subst⁻¹ (P (c .sheets .one) (c .sheets .two)) emits (f c)))
 
-  -- runs of the emitted plan, whatever contract the client has
-  pub emitted-runs : (user : Contract) (attempts : List Attempt) → Runs k user (contractIn old) (contractIn new) emitted attempts
+  -- runs of the written plan, whatever contract the client has
+  pub emitted-runs : (user : Contract) (attempts : List Attempt) → Runs k user (contractIn old) (contractIn new) written attempts
   emitted-runs user attempts =
       over-bytes (λ o n b. Runs k user o n b attempts)
       (λ c. runs k limit (limit-few (length work)) (length plan) old new c user attempts)
 
   -- and their buffer allows every move
   pub emitted-allowed : (user : Contract) (attempts : List Attempt)
-      → (b : List ℕ) × (bufferFrom (alike k) (start .buffer) (history user (contractIn new) (rowsIn emitted) attempts) ≡ some b)
+      → (b : List ℕ) × (bufferFrom (alike k) (start .buffer) (history user (contractIn new) (rowsIn written) attempts) ≡ some b)
   emitted-allowed user attempts =
       over-bytes (λ o n b. (l : List ℕ) × (bufferFrom (alike k) (start .buffer) (history user n (rowsIn b) attempts) ≡ some l))
       (λ c. allowed-all k limit (limit-few (length work)) (length plan) old new c user attempts)

@@ -20,17 +20,17 @@ below : (count i : ℕ) → i < count → List·Memᴰ i (upto 0 count)
 below count i h = mem-upto count 0 i (omega arith) (omega arith)
 
 -- lists of n counts, each within its limit
-counts : (n : ℕ) → (ℕ → ℕ) → List (List ℕ)
-counts zero limit = [] ∷ []
-counts (suc n) limit = combine _∷_ (upto 0 (suc (limit 0))) (counts n (λ i. limit (suc i)))
+buffers : (n : ℕ) → (ℕ → ℕ) → List (List ℕ)
+buffers zero limit = [] ∷ []
+buffers (suc n) limit = combine _∷_ (upto 0 (suc (limit 0))) (buffers n (λ i. limit (suc i)))
 
-all-counts : (n : ℕ) (limit : ℕ → ℕ) (b : List ℕ) → length b ≡ n → ((i : ℕ) → getD b i 0 ≤ limit i) → List·Memᴰ b (counts n limit)
-unfolding counts
-all-counts zero limit [] e f = List·Memᴰ·head refl
-all-counts zero limit (x ∷ b) e f = absurd (omega arith)
-all-counts (suc n) limit [] e f = absurd (omega arith)
-all-counts (suc n) limit (x ∷ b) e f =
-    combine-intro _∷_ (below (suc (limit 0)) x (omega (arith, f 0))) (all-counts n (λ i. limit (suc i)) b (omega arith) (λ i. f (suc i)))
+all-buffers : (n : ℕ) (limit : ℕ → ℕ) (b : List ℕ) → length b ≡ n → ((i : ℕ) → getD b i 0 ≤ limit i) → List·Memᴰ b (buffers n limit)
+unfolding buffers
+all-buffers zero limit [] e f = List·Memᴰ·head refl
+all-buffers zero limit (x ∷ b) e f = absurd (omega arith)
+all-buffers (suc n) limit [] e f = absurd (omega arith)
+all-buffers (suc n) limit (x ∷ b) e f =
+    combine-intro _∷_ (below (suc (limit 0)) x (omega (arith, f 0))) (all-buffers n (λ i. limit (suc i)) b (omega arith) (λ i. f (suc i)))
 
 module _ (limits : List ℕ) (old new : Contract) (old-formed : WellFormed old) (new-formed : WellFormed new) where
   abbrev situation : List ℕ → ℕ → ℕ → Situation
@@ -39,7 +39,7 @@ module _ (limits : List ℕ) (old new : Contract) (old-formed : WellFormed old) 
   -- every buffer within the limits with every state of the old contract and every state of the new one
   board : List Situation
   board =
-      combine (λ f q. f q) (combine situation (counts 14 (λ i. getD limits i 0)) (upto 0 (length (old .states))))
+      combine (λ f q. f q) (combine situation (buffers 14 (λ i. getD limits i 0)) (upto 0 (length (old .states))))
       (upto 0 (length (new .states)))
 
   on-board : (s : Situation) → Reached codes (next limits old new) start s → List·Memᴰ s board
@@ -48,7 +48,7 @@ module _ (limits : List ℕ) (old new : Contract) (old-formed : WellFormed old) 
       let w = reached-within limits old new old-formed new-formed r in
       let k = rank-reached limits old new r in
       combine-intro (λ (f : ℕ → Situation) (q : ℕ). f q)
-      (combine-intro situation (all-counts 14 (λ i. getD limits i 0) (s .buffer) (k .size) (k .bounded))
+      (combine-intro situation (all-buffers 14 (λ i. getD limits i 0) (s .buffer) (k .size) (k .bounded))
       (below (length (old .states)) (s .old) (w .0)))
       (below (length (new .states)) (s .new) (w .1))
 

@@ -14,7 +14,7 @@ use Rattle.model.specs.Lists.{any, keep}
 use Rattle.model.specs.Contract.{Contract, State, actions, partner, has, nowhere, state, offers, offersIn, offeredBelow, after}
 use Rattle.model.specs.Client.{Meet, met-first, met-on, Apart, Complies}
 use Rattle.model.proofs.Lists.{dec-T, or-right, cond-yes, cond-no, any-intro, all-elim, keep-intro, keep-elim, combine-intro, combine-elim}
-use Rattle.model.proofs.Actions.{action, action-below, partner-action, partner-partner, kept-entry}
+use Rattle.model.proofs.Actions.{action, action-below, partner-action, partner-partner, kept-result}
 use Rattle.model.proofs.Bits.{has-or-left, has-or-right, has-or-cases}
 use Rattle.model.proofs.Masks.{has-none, has-power, power-has}
 use Rattle.model.proofs.Sheet.{offers-within}
@@ -106,7 +106,7 @@ pub demanding-after : (p : State) (j : ℕ) → j < 14 → T (offers (demandingS
     → after (demandingState p) (partner j) ≡ after p j
 unfolding after offeredBelow demandingState offers actions
 demanding-after p j h o =
-    kept-entry (λ i. after p (partner i)) (offersIn (demandsOfAll (p .ready))) (partner j) o 14 0
+    kept-result (λ i. after p (partner i)) (offersIn (demandsOfAll (p .ready))) (partner j) o 14 0
     (omega arith) (omega (arith, partner-action j h))
     ∙ ap (after p) (partner-partner j h)
 

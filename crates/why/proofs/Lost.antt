@@ -35,8 +35,8 @@ module _ (limits : List ℕ) (σ τ : Contract) (σ-formed : WellFormed σ) (τ-
   abbrev nx : Situation → ℕ → Option Situation
   nx = next limits σ τ
 
-  abbrev Ends : Type 0
-  Ends = EndsBadly limits (demanding σ) τ offer
+  abbrev BadEnd : Type 0
+  BadEnd = EndsBadly limits (demanding σ) τ offer
 
   -- ---- a code that a trap's choice needs
 
@@ -96,7 +96,7 @@ module _ (limits : List ℕ) (σ τ : Contract) (σ-formed : WellFormed σ) (τ-
 
   -- a play that leads to the situation goes on to a bad end
   abbrev Lost : Situation → Type 0
-  Lost s = (made : List ℕ) → Played limits (demanding σ) τ offer (standing s made) → Ends
+  Lost s = (made : List ℕ) → Played limits (demanding σ) τ offer (standing s made) → BadEnd
 
   -- what is reached and not there is lost
   abbrev LostBut : List Situation → Type 0
@@ -113,11 +113,11 @@ module _ (limits : List ℕ) (σ τ : Contract) (σ-formed : WellFormed σ) (τ-
 
     -- a code can be made: the buffer does not allow it, or it leads to what was removed earlier
     by-code : (made : List ℕ) → Played limits (demanding σ) τ offer (standing s made)
-        → (code : ℕ) → CanBeMade offer (standing s made) (trap .R) (trap .S) code → Ends
+        → (code : ℕ) → CanBeMade offer (standing s made) (trap .R) (trap .S) code → BadEnd
     unfolding standing
     by-code made played code can = go (bufferAfter limits (s .buffer) (kindOf code)) refl
       where
-        go : (o : Option (List ℕ)) → bufferAfter limits (s .buffer) (kindOf code) ≡ o → Ends
+        go : (o : Option (List ℕ)) → bufferAfter limits (s .buffer) (kindOf code) ≡ o → BadEnd
         go none x =
             record {
               at = standing s made;
@@ -185,7 +185,7 @@ module _ (limits : List ℕ) (σ τ : Contract) (σ-formed : WellFormed σ) (τ-
 
   -- if the rounds over all that is reached remove the start, every strategy ends badly
   pub start-lost : (reached : List Situation) → ((s : Situation) → Reached codes nx start s → List·Memᴰ s reached)
-      → (List·Memᴰ start (settled same codes nx (test σ τ) reached .kept) → ⊥) → Ends
+      → (List·Memᴰ start (settled same codes nx (test σ τ) reached .kept) → ⊥) → BadEnd
   unfolding settled standing start opening
   start-lost reached all-reached out =
       settle-lost (length reached) reached (λ s r m. absurd (m (all-reached s r))) start (at-start refl) out [] played-none
