@@ -122,7 +122,7 @@ module _ (limits : List ℕ) (σ τ : Contract) (σ-formed : WellFormed σ) (τ-
             record {
               at = standing s made;
               played = played;
-              badly = inr (record { R = trap .R; S = trap .S; code = code; chosen = chosen made; made = can; leaves = x });
+              badly = inr (record { R = trap .R; S = trap .S; code = code; chosen = chosen made; can = can; leaves = x });
             }
         go (some b) x =
             let A = movesInto same codes nx there s in
@@ -136,6 +136,7 @@ module _ (limits : List ℕ) (σ τ : Contract) (σ-formed : WellFormed σ) (τ-
             (subst (Played limits (demanding σ) τ offer) (goes-on A s within trap made b code (can .needed))
             (played-on (trap .R) (trap .S) code played (chosen made) can x))
 
+    -- no code can be made: the client hangs; else one of them is
     trapped : Lost s
     unfolding standing
     trapped made played =

@@ -125,7 +125,7 @@ module _ (user new : Contract) (rows : List (List Move)) where
       breaking : BreaksLimits limits user new (planned rows) x → PlanFails limits user new rows
       breaking w =
           let a : Attempt = record { R = w .R; S = w .S; code = w .code } in
-          let m = as-move (w .R) (w .S) (w .code) (w .chosen) (w .made) in
+          let m = as-move (w .R) (w .S) (w .code) (w .chosen) (w .can) in
           record {
             attempts = d .attempts ++ a ∷ [];
             fails = inr (

@@ -95,7 +95,7 @@ module _ (limits : List ℕ) (user new : Contract) (offer : Strategy) where
     pub S : ℕ
     pub code : ℕ
     pub chosen : Chosen user new x R S
-    pub made : CanBeMade offer x R S code
+    pub can : CanBeMade offer x R S code
     pub leaves : bufferAfter limits (x .buffer) (kindOf code) ≡ none
 
   -- some play ends badly
