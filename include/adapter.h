@@ -42,7 +42,7 @@ extern "C" {
 /*
  * The number of an answer: 0, or what is wrong. The comments are document 01's, "Given when". 12 is proved to mean that no adapter would
  * do: no relation of definition 3.7 of Padovani 2010 holds the start with this k, and some client that complies with the old contract can
- * hang behind every adapter that keeps at most k messages of each name and direction, a plan or not.
+ * hang behind every adapter, a plan or not, that keeps at most k messages of each name and direction and makes none up.
  */
 enum adapter_refusal {
     ADAPTER_ACCEPTED = 0,

@@ -1,6 +1,6 @@
 -- A run of an emitted plan: the plan state stands for a situation whose new state is the service's and whose old state the
--- client can be met in. So a client that complies with the old contract comes to no standstill, and service-alone moves in a
--- row use up what is left for them.
+-- client can be met in. So the buffer allows every move, a client that complies with the old contract comes to no standstill, and
+-- service-alone moves in a row use up what is left for them.
 -- Assumes nothing.
 use mathlib.Core.Path.{_≡_, refl, sym, ap, subst, subst⁻¹, _∙_}
 use mathlib.Core.Bool.{Bool, true, false}
@@ -125,7 +125,8 @@ module _ (limits : List ℕ) (user old new : Contract) (kept : List Situation) (
   tied-moved : (r : Run) (a : Attempt) (to : ℕ) → Tied r → IsMove user new rows r a to → Tied (moved user new rows r (kindOf (a .code)) to)
   tied-moved r a to d m =
       let w = held-move r d (a .code) to (m .holds) in
-      tied-code r (a .R) (a .S) to d (choice-elim user new rows r (a .R) (a .S) (m .chosen) .0) (w .1 .0) (w .1 .3) (a .code) (w .0) (m .needed) (w .1 .1)
+      let mR = choice-elim user new rows r (a .R) (a .S) (m .chosen) .0 in
+      tied-code r (a .R) (a .S) to d mR (w .1 .0) (w .1 .3) (a .code) (w .0) (m .needed) (w .1 .1)
 
   pub tied-attempted : (r : Run) (a : Attempt) → Tied r → Tied (attempted user new rows r a)
   unfolding attempted movedIf
@@ -141,8 +142,8 @@ module _ (limits : List ℕ) (user old new : Contract) (kept : List Situation) (
   tied-run (a ∷ attempts) r d = tied-run attempts (attempted user new rows r a) (tied-attempted r a d)
 
   -- the situation that a move of the run leads to is that of the next tie
-  moved-at : (r : Run) (d : Tied r) (a : Attempt) (to : ℕ) (d′ : Tied (moved user new rows r (kindOf (a .code)) to)) → IsMove user new rows r a to
-      → List·Memᴰ (a .code) codes × (nx (d .at) (a .code) ≡ some (d′ .at))
+  moved-at : (r : Run) (d : Tied r) (a : Attempt) (to : ℕ) (d′ : Tied (moved user new rows r (kindOf (a .code)) to))
+      → IsMove user new rows r a to → List·Memᴰ (a .code) codes × (nx (d .at) (a .code) ≡ some (d′ .at))
   moved-at r d a to d′ m =
       let w = held-move r d (a .code) to (m .holds) in
       let t = w .1 .0 in
@@ -230,8 +231,8 @@ module _ (limits : List ℕ) (user old new : Contract) (kept : List Situation) (
         subst (λ (t : Situation). left n limits (s .buffer) ≡ suc (left n limits (t .buffer))) (b .2)
         (left-less n limits (s .buffer) few j (b .0) h (named (s .new) j h (x .0)) r (b .1)))
 
-    uses-run : (r : Run) (d : Tied r) (a : Attempt) (to : ℕ) (d′ : Tied (moved user new rows r (kindOf (a .code)) to)) → IsMove user new rows r a to
-        → T (isAlone (kindOf (a .code))) → leftAt d ≡ suc (leftAt d′)
+    uses-run : (r : Run) (d : Tied r) (a : Attempt) (to : ℕ) (d′ : Tied (moved user new rows r (kindOf (a .code)) to))
+        → IsMove user new rows r a to → T (isAlone (kindOf (a .code))) → leftAt d ≡ suc (leftAt d′)
     uses-run r d a to d′ m l =
         let w = moved-at r d a to d′ m in
         uses (d .at) (d′ .at) (a .code) (w .0) l (rank-tied r d) (w .1)

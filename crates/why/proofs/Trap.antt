@@ -10,7 +10,7 @@ use lib.ListN.{length}
 use lib.Dec.{T}
 use Rattle.model.specs.Contract.{Contract, State, partner, has, state, offersIn, offers}
 use Rattle.model.specs.Situation.{Situation, kindOf, codes}
-use Rattle.model.specs.Test.{covered, hope, test}
+use Rattle.model.specs.Test.{hope, test}
 use Rattle.model.specs.Run.{need}
 use Rattle.model.proofs.Actions.{partner-action, partner-injective}
 use Rattle.model.proofs.Situation.{code-elim}
@@ -18,7 +18,7 @@ use Rattle.model.proofs.Test.{covered-intro, hope-intro}
 use Rattle.model.proofs.Attempts.{need-straight, need-client, need-service}
 use Rattle.why.specs.Demanding.{demandingState, demanding}
 use Rattle.why.proofs.Demanding.{OnlyBad, demands-bad, demanding-state}
-use Rattle.why.proofs.Failing.{test-fails}
+use Rattle.why.proofs.Failing.{Uncovered, test-fails}
 
 -- a choice at a situation, between the most demanding client of σ and τ
 pub record Trap (σ τ : Contract) (A : List ℕ) (s : Situation) : Type 0 where
@@ -34,12 +34,12 @@ pub record Trap (σ τ : Contract) (A : List ℕ) (s : Situation) : Type 0 where
 
 -- ---- R has partners of uncovered actions only, and S has no hope
 
-module _ (ready A : List ℕ) (R S : ℕ) (only : OnlyBad (λ j. T (covered A S j) → ⊥) ready R) (hopeless : T (hope A S) → ⊥) where
-  asks-uncovered : (j : ℕ) → j < 14 → T (has R (partner j)) → T (offersIn ready j) × (T (covered A S j) → ⊥)
+module _ (ready A : List ℕ) (R S : ℕ) (only : OnlyBad (Uncovered A S) ready R) (hopeless : T (hope A S) → ⊥) where
+  asks-uncovered : (j : ℕ) → j < 14 → T (has R (partner j)) → T (offersIn ready j) × Uncovered A S j
   asks-uncovered j h t =
       let w = only (partner j) t in
       let e : j ≡ w .0 = partner-injective j (w .0) h (w .1) (w .2) in
-      (subst⁻¹ (λ (j : ℕ). T (offersIn ready j)) e (w .3), subst⁻¹ (λ (j : ℕ). T (covered A S j) → ⊥) e (w .4))
+      (subst⁻¹ (λ (j : ℕ). T (offersIn ready j)) e (w .3), subst⁻¹ (Uncovered A S) e (w .4))
 
   no-mark : T (has R 14) → ⊥
   no-mark t = let w = only 14 t in absurd (omega (arith, w .2, partner-action (w .0) (w .1)))
@@ -57,7 +57,7 @@ failing-trap σ τ A s within f =
     let ready = state σ (s .old) .ready in
     let w = test-fails σ τ A s f in
     let S = w .0 in
-    let v = demands-bad (λ j. T (covered A S j) → ⊥) ready (w .2 .uncovered) in
+    let v = demands-bad (Uncovered A S) ready (w .2 .uncovered) in
     let R = v .0 in
     record {
       R = R;
