@@ -1,24 +1,27 @@
 /*
- * Connecting two service contracts, stepping a plan, checking a client against a service: the proved library for C and C++.
+ * Connecting two service contracts, stepping a plan, checking a client against a service, converting a choosing sheet: the proved library
+ * for C and C++.
  *
  * `rt staticlib adapter` proves the library and writes it to target/staticlib/libadapter.a, for x86-64 Linux. It needs nothing else but
- * memcpy and memset of the C library. examples/c is a program that uses it. The rules, sheets and plans are those of document 01; the words
- * in quotation marks below are taken from it. docs/FORMATS.md explains sheets and plans byte by byte, docs/GLOSSARY.md the words.
+ * memcpy and memset of the C library. examples/c is a program that uses it. The rules, sheets and plans are those of document 01, choosing
+ * sheets those of document 02, request 1/13; the words in quotation marks below are taken from them. docs/FORMATS.md explains sheets and
+ * plans byte by byte, docs/GLOSSARY.md the words.
  *
  * What the caller promises. The proof begins here: of a call that breaks one of these, nothing is said.
  *   - Each pointer leads to as many elements as the length behind it says, in one object, all of them initialised; any values will do. A
  *     length counts elements: records for the work table, bytes for all else. With length 0 the pointer may be null.
  *   - The work table is aligned as an array of struct adapter_record is, to 4 bytes. Bytes may stand anywhere.
- *   - The work table and the lent plan overlap nothing else that is passed. What is only read may overlap: one sheet may be passed twice.
- *   - While a call runs, nothing else writes to what is passed, or reads the work table or the lent plan.
+ *   - The work table, the lent plan and the lent output overlap nothing else that is passed. What is only read may overlap: one sheet may
+ *     be passed twice.
+ *   - While a call runs, nothing else writes to what is passed, or reads the work table, the lent plan or the lent output.
  *
  * What it gets for that. Bytes of all kinds and lengths are answered, by a result or a refusal; every call ends; no call reads or writes
  * anything but what is passed.
  *   - All memory is the caller's, before and after. No pointer is kept when a call returns.
  *   - Nothing is allocated, and there is no global state. Calls on distinct buffers are re-entrant, and may run at the same time; what is
  *     only read may be shared between them.
- *   - There is no recursion. Of the stack, adapter_complies uses some 13 KiB and the others less than 2 KiB; that is measured and not
- *     proved.
+ *   - There is no recursion. Of the stack, adapter_complies uses some 13 KiB, adapter_from_choosing some 5 KiB, the others less than 2 KiB;
+ *     that is measured and not proved.
  */
 #ifndef ADAPTER_H
 #define ADAPTER_H
@@ -30,7 +33,13 @@
 extern "C" {
 #endif
 
-/* The bytes of the longest sheet. A longer one is refused as ADAPTER_LENGTH. */
+/* Rises with every change of this header. */
+#define ADAPTER_HEADER_VERSION 2
+
+/*
+ * The bytes of the longest sheet. A longer one is refused as ADAPTER_LENGTH. With this much lent, no choosing sheet is refused as
+ * ADAPTER_ROOM.
+ */
 #define ADAPTER_LONGEST_SHEET 2118
 
 /* The most situations of a pair, and the most states of a plan. More records than these are never used. */
@@ -40,9 +49,10 @@ extern "C" {
 #define ADAPTER_LONGEST_PLAN 536584
 
 /*
- * The number of an answer: 0, or what is wrong. The comments are document 01's, "Given when". 12 is proved to mean that no adapter would
- * do: no relation of definition 3.7 of Padovani 2010 holds the start with this k, and some client that complies with the old contract can
- * hang behind every adapter, a plan or not, that keeps at most k messages of each name and direction and makes none up.
+ * The number of an answer: 0, or what is wrong. The comments are document 01's, "Given when", and from 17 on document 02's. 12 is proved to
+ * mean that no adapter would do: no relation of definition 3.7 of Padovani 2010 holds the start with this k, and some client that complies
+ * with the old contract can hang behind every adapter, a plan or not, that keeps at most k messages of each name and direction and makes
+ * none up.
  */
 enum adapter_refusal {
     ADAPTER_ACCEPTED = 0,
@@ -58,10 +68,14 @@ enum adapter_refusal {
     ADAPTER_RANK = 10,       /* k above 3 */
     ADAPTER_CAPACITY = 11,   /* reached situations exceed the lent records or 4,096 */
     ADAPTER_NO_ADAPTER = 12, /* the start is removed: no weak k-subcontract relation holds it */
-    ADAPTER_ROOM = 13,       /* the plan is longer than the lent plan */
+    ADAPTER_ROOM = 13,       /* the plan is longer than the lent plan, or the sheet than the lent output */
     ADAPTER_PLAN = 14,       /* a stepped plan breaks the plan layout */
     ADAPTER_STATE = 15,      /* not a state of the plan */
-    ADAPTER_MOVE = 16        /* code not in that row */
+    ADAPTER_MOVE = 16,       /* code not in that row */
+    ADAPTER_CHOOSING = 17,   /* a choosing sheet of any other form */
+    ADAPTER_CIRCLE = 18,     /* a circle of internal moves, reached or not */
+    ADAPTER_STATES = 19,     /* more than 64 states */
+    ADAPTER_READY_SETS = 20  /* more than 8 ready sets in a state */
 };
 
 /*
@@ -97,6 +111,14 @@ struct adapter_complies_answer {
     uint8_t yes;    /* 1 if the client complies, 0 if it does not or on a refusal */
 };
 
+/* What converting answers, in 6 bytes. The byte between the fields means nothing. */
+struct adapter_sheet_answer {
+    uint8_t number;  /* ADAPTER_ACCEPTED, ADAPTER_CHOOSING, ADAPTER_CIRCLE, ADAPTER_STATES, ADAPTER_READY_SETS or ADAPTER_ROOM */
+    uint8_t sheet;   /* 0 */
+    uint8_t state;   /* 0 */
+    uint16_t length; /* of the sheet that was written, in bytes; 0 on a refusal */
+};
+
 /*
  * Connects two service sheets, with up to k messages of each name and direction kept (k is 0 to 3), and writes the plan.
  *
@@ -124,6 +146,17 @@ struct adapter_step_answer adapter_step(const uint8_t *plan, size_t plan_len, ui
 /* Whether a client complies with a service: "yes or no, or gives refusals 1 to 9; client first, service second". */
 struct adapter_complies_answer adapter_complies(const uint8_t *client, size_t client_len, const uint8_t *service, size_t service_len);
 
+/*
+ * Converts a choosing sheet, in which "an action has several successors or a state moves on by itself", to an ordinary sheet of a service.
+ * After every sequence of actions both have the same ready sets. The first refusal of 17, 18, 19, 20 and 13, in this order, is the answer.
+ * After the call:
+ *
+ *   number          the lent output
+ *   13, 17 to 20    unchanged
+ *   0               its first `length` bytes are the sheet; bytes beyond it are untouched
+ */
+struct adapter_sheet_answer adapter_from_choosing(const uint8_t *choosing, size_t choosing_len, uint8_t *sheet, size_t sheet_len);
+
 #if defined(__cplusplus) && __cplusplus >= 201103L
 #define ADAPTER_ASSERT static_assert
 #elif defined(__STDC_VERSION__) && __STDC_VERSION__ >= 201112L
@@ -134,6 +167,7 @@ ADAPTER_ASSERT(sizeof(struct adapter_record) == 208, "a record has 208 bytes");
 ADAPTER_ASSERT(sizeof(struct adapter_answer) == 16, "the answer of connecting has 16 bytes");
 ADAPTER_ASSERT(sizeof(struct adapter_step_answer) == 4, "the answer of stepping has 4 bytes");
 ADAPTER_ASSERT(sizeof(struct adapter_complies_answer) == 4, "the answer of the client check has 4 bytes");
+ADAPTER_ASSERT(sizeof(struct adapter_sheet_answer) == 6, "the answer of converting has 6 bytes");
 #undef ADAPTER_ASSERT
 #endif
 

@@ -1,4 +1,7 @@
-/* Connects the pair M1 of document 01, prints the answer and the plan, steps the plan, and checks a client of the old service. */
+/*
+ * Connects the pair M1 of document 01, prints the answer and the plan, steps the plan, checks a client of the old service, and converts a
+ * choosing sheet.
+ */
 #include <stdio.h>
 
 #include "adapter.h"
@@ -27,16 +30,27 @@ static const uint8_t client[] = {
     0x07, 0x00, 0x02, 0x02, 0x01, 0xC5, /* the trailer, of a client */
 };
 
+/* A service that chooses by itself between taking a and taking b, and ends: a(+)b. Its sheet is not an ordinary one. */
+static const uint8_t choosing_sheet[] = {
+    0x00, 0x02, 0x01, 0x02,                         /* row 0 hides a choice: two internal moves, to the rows 1 and 2 */
+    0x01, 0x01, 0x00, 0x01, 0x03,                   /* row 1 is open and offers a; a has one successor, row 3 */
+    0x01, 0x02, 0x00, 0x01, 0x03,                   /* row 2 is open and offers b, which has one successor, row 3 */
+    0x01, 0x00, 0x00,                               /* row 3 offers nothing: the end */
+    0x00, 0x00, 0x04, 0x00, 0x09, 0x00, 0x0E, 0x00, /* the index */
+    0x11, 0x00, 0x04, 0x02, 0x00, 0xC6,             /* the trailer, of a choosing sheet */
+};
+
 /* All the memory there is: the library has none of its own. */
 static struct adapter_record work[16];
 static uint8_t plan[128];
+static uint8_t sheet[ADAPTER_LONGEST_SHEET];
 
 /* Prints bytes from a place on, and gives the place behind them. */
-static size_t print_bytes(size_t at, size_t count, const char *end)
+static size_t print_bytes(const uint8_t *bytes, size_t at, size_t count, const char *end)
 {
     size_t behind = at + count;
     for (; at < behind; at++) {
-        printf("%02X%s", plan[at], at + 1 < behind ? " " : end);
+        printf("%02X%s", bytes[at], at + 1 < behind ? " " : end);
     }
     return behind;
 }
@@ -47,10 +61,10 @@ static void print_plan(unsigned states)
     size_t at = 0;
     printf("plan ");
     for (unsigned state = 0; state < states; state++) {
-        at = print_bytes(at, 1 + 3 * (size_t)plan[at], ", ");
+        at = print_bytes(plan, at, 1 + 3 * (size_t)plan[at], ", ");
     }
-    at = print_bytes(at, 4 * (size_t)states, ", ");
-    print_bytes(at, 8, "\n");
+    at = print_bytes(plan, at, 4 * (size_t)states, ", ");
+    print_bytes(plan, at, 8, "\n");
 }
 
 /* Steps the plan, and gives the state it is in then. A refused step leaves it where it is. */
@@ -88,5 +102,10 @@ int main(void)
 
     struct adapter_complies_answer checked = adapter_complies(client, sizeof client, old_sheet, sizeof old_sheet);
     printf("client: number %u, complies: %s\n", (unsigned)checked.number, checked.yes ? "yes" : "no");
+
+    /* The ordinary sheet of a(+)b: in state 0 two ready sets, one with a and one with b. */
+    struct adapter_sheet_answer converted = adapter_from_choosing(choosing_sheet, sizeof choosing_sheet, sheet, sizeof sheet);
+    printf("choosing: number %u, sheet ", (unsigned)converted.number);
+    print_bytes(sheet, 0, converted.length, "\n");
     return 0;
 }

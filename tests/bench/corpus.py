@@ -3,14 +3,16 @@
 Two files, `inputs` and `random`, of records that follow one another: name
 (8-bit length and that many bytes); lent records (16 bits); lent plan bytes (32
 bits); k (8 bits); the old sheet and the new one, each behind its length (16
-bits).  Numbers are little-endian.  The names of random pairs are empty.  Every
-run writes the same bytes.
+bits).  Numbers are little-endian.  The names of random pairs are empty.  And
+two files, `choosing` and `random-choosing`, of the records that
+choosing_corpus.py has.  Every run writes the same bytes.
 """
 
 import sys
 from pathlib import Path
 from typing import NamedTuple
 
+from tests.bench import choosing_corpus
 from tests.reference.chance import Chance
 from tests.reference.pair_cases import small_sheets
 from tests.reference.random_contracts import Shape, random_contract, resembling
@@ -239,7 +241,12 @@ def random_pairs():
 
 def main(folder):
     folder.mkdir(parents=True, exist_ok=True)
-    for name, made in (("inputs", inputs()), ("random", random_pairs())):
+    for name, made in (
+        ("inputs", inputs()),
+        ("random", random_pairs()),
+        ("choosing", choosing_corpus.inputs()),
+        ("random-choosing", choosing_corpus.random_inputs()),
+    ):
         data = b"".join(one.data() for one in made)
         (folder / name).write_bytes(data)
         print(f"{folder / name}: {len(data)} bytes")

@@ -7,14 +7,14 @@ repository's root.
     make show KIND NUMBER   a case, counted from 0: label, bytes, expected lines
     make write KIND FOLDER  the two files of any kind, into a folder
 
-A kind is one of sheets, pairs, steps, clients, runs.
+A kind is one of sheets, pairs, steps, clients, runs, choosing.
 """
 
 import sys
 from collections import Counter
 from pathlib import Path
 
-from . import client_cases, pair_cases, run_cases, sheet_cases, step_cases
+from . import choosing_cases, client_cases, pair_cases, run_cases, sheet_cases, step_cases
 from .framing import packed
 from .program import printed
 from .program_inputs import stored_inputs
@@ -25,6 +25,7 @@ KINDS = {
     "steps": step_cases,
     "clients": client_cases,
     "runs": run_cases,
+    "choosing": choosing_cases,
 }
 
 #: The kinds that a test program runs, and its crate.
@@ -34,6 +35,7 @@ STORED = {
     "steps": Path("crates/step_cases"),
     "clients": Path("crates/client_cases"),
     "runs": Path("crates/run_cases"),
+    "choosing": Path("crates/choosing_cases"),
 }
 
 

@@ -10,6 +10,7 @@ from functools import cache
 from .actions import SUCCESS, mask_of, partner
 from .cases import CASES, END, FOR_EVER, M1_NEW, M1_OLD, M1_PLAN, M1_PRINT, A, B, C, NOTHING, either, internally, send, then
 from .chance import Chance
+from .choosing_selfcheck import ChoosingSheets, HiddenChoices, NoCircle, Reading
 from .compliance import check_client, complies
 from .connecting import ZERO_RECORD, Answer, connect
 from .game import (
@@ -28,6 +29,9 @@ from .random_contracts import Shape, mirrored, random_contract, resembling
 from .relation import kept_after_rounds, passes, reached
 from .runs import At, Attempt, run
 from .sheets import CLIENT, SERVICE, Contract, Refusal, offered, read_sheet, state, write_sheet
+
+#: Checked with the rest.
+CHOOSING = ChoosingSheets, HiddenChoices, NoCircle, Reading
 
 MARKED = Situation((9,) * 14, 9, 9)
 

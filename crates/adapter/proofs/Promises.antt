@@ -1,5 +1,5 @@
--- Demand 3 and the meaning of a no over the entry points' contracts: what connecting ensures is what `connectOf` gives, so `demand-3` and
--- `refused-for-good` speak of it.
+-- Demand 3, the meaning of a no and what converting says, over the entry points' contracts: what connecting ensures is what `connectOf` gives,
+-- and what converting ensures is what `convertInto` gives, so `demand-3`, `refused-for-good` and `converting` speak of them.
 -- Assumes nothing.
 use mathlib.Core.Path.{_≡_, sym, ap, subst, subst⁻¹, _∙_}
 use mathlib.Core.List.{List}
@@ -20,7 +20,9 @@ use Rattle.comply.specs.Answer.{complianceOf}
 use Rattle.connect.specs.Answers.{answerOf}
 use Rattle.connect.specs.declared.Answer.{Answer}
 use Rattle.comply.specs.declared.Compliance.{Compliance}
-use Rattle.adapter.specs.Promises.{EntryDemand-3, EntryRefusedForGood}
+use Rattle.choosing.specs.Promises.{ConvertingSays}
+use Rattle.choosing.proofs.Says.{converting}
+use Rattle.adapter.specs.Promises.{EntryDemand-3, EntryRefusedForGood, EntryConverting}
 
 module _ (k : ℕ) (old new : List ℕ) (answer : Answer) (work work′ : List Record) (plan plan′ : List ℕ)
     (ensured : record { answer = answerOf answer; plan = plan′; work = work′ } ≡ connectOf blank k old new work plan) where
@@ -56,3 +58,6 @@ entry-demand-3 k old new answer work work′ plan plan′ client user attempts e
 pub entry-refused-for-good : EntryRefusedForGood
 entry-refused-for-good k old new answer work work′ plan plan′ ensured z =
     refused-for-good Record blank k old new work plan (number-is k old new answer work work′ plan plan′ ensured 12 z)
+
+pub entry-converting : EntryConverting
+entry-converting choosing answer sheet sheet′ small ensured = subst⁻¹ (ConvertingSays choosing sheet) ensured (converting choosing sheet small)

@@ -1,12 +1,12 @@
--- Demand 3, and what a no means, in the words of the entry points' own contracts: what connecting, stepping and the client check ensure of
--- their answers.
+-- Demand 3, what a no means, and what converting says, in the words of the entry points' own contracts: what each ensures of its answer.
 -- Assumes nothing.
 use mathlib.Core.Path.{_≡_}
 use mathlib.Core.Bool.{true}
 use mathlib.Core.List.{List, _∷_, _++_}
-use Prim.Native.Nat.{ℕ, _*_, _≤_}
+use Prim.Native.Nat.{ℕ, _*_, _≤_, _<_}
 use lib.ListN.{take}
 use lib.Dec.{T}
+use Rattle.model.specs.Bytes.{byte}
 use Rattle.model.specs.Contract.{Contract, has}
 use Rattle.model.specs.Sheet.{Sheet, good, readSheet, contractIn}
 use Rattle.model.specs.Situation.{alike}
@@ -25,6 +25,10 @@ use Rattle.table.specs.declared.Record.{Record}
 use Rattle.table.specs.Records.{blank}
 use Rattle.connect.specs.Answers.{answerOf}
 use Rattle.connect.specs.declared.Answer.{Answer}
+use Rattle.nodes.specs.declared.SheetAnswer as nodes
+use Rattle.choosing.specs.Convert.{convertInto}
+use Rattle.choosing.specs.Promises.{ConvertingSays}
+use Rattle.convert.specs.Answer.{writtenBy}
 
 -- what holds of a plan's bytes, for a list of attempts with a client
 pub record RunsByAnswers (k : ℕ) (client old : List ℕ) (user new : Contract) (bytes : List ℕ) (attempts : List Attempt) : Type 0 where
@@ -55,3 +59,9 @@ EntryRefusedForGood =
     (k : ℕ) (old new : List ℕ) (answer : Answer) (work work′ : List Record) (plan plan′ : List ℕ)
     → record { answer = answerOf answer; plan = plan′; work = work′ } ≡ connectOf blank k old new work plan → answer .number ≡ 12
     → Defeats (alike k) (contractIn old) (contractIn new) (demanding (contractIn old))
+
+-- Whatever converting ensured of its answer and of the lent output says what it should of the choosing sheet's bytes.
+abbrev pub EntryConverting : Type 0
+EntryConverting =
+    (choosing : List ℕ) (answer : nodes.SheetAnswer) (sheet sheet′ : List ℕ) → ((i : ℕ) → byte choosing i < 256)
+    → writtenBy answer sheet′ ≡ convertInto choosing sheet → ConvertingSays choosing sheet (writtenBy answer sheet′)

@@ -7,6 +7,8 @@ ghost use Rattle.plan.specs.Step.{steppedOf};
 ghost use Rattle.comply.specs.Answer.{complianceOf};
 ghost use Rattle.table.specs.Records.{blank};
 ghost use Rattle.connect.specs.Answers.{answerOf};
+ghost use Rattle.choosing.specs.Convert.{convertInto};
+ghost use Rattle.convert.specs.Answer.{writtenBy};
 use comply::Compliance;
 use plan::Stepped;
 
@@ -39,4 +41,12 @@ pub extern "C" fn adapter_complies(client: &[u8], service: &[u8]) -> Compliance
     ensures { λ r. ⌜ r ≡ complianceOf (compliesOf (now (client .entry)) (now (service .entry))) ⌝ }
 {
     comply::complies(client, service)
+}
+
+// `convert::convert`.
+#[no_mangle]
+pub extern "C" fn adapter_from_choosing(choosing: &[u8], sheet: &mut [u8]) -> nodes::SheetAnswer
+    ensures outcome { λ r. ⌜ writtenBy r (now (sheet .exit)) ≡ convertInto (now (choosing .entry)) (now (sheet .entry)) ⌝ }
+{
+    convert::convert(choosing, sheet)
 }

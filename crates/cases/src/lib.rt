@@ -1,5 +1,6 @@
 // Answers the cases that stand on standard input, each behind its length. tests/reference makes them and says what is to be printed for
 // each; its README has the form of every kind.
+mod choosing_sheets;
 mod clients;
 mod sheets;
 mod steps;
@@ -11,6 +12,7 @@ pub enum Kind {
     Steps,
     Clients,
     Runs,
+    Choosing,
 }
 
 fn answer(kind: Kind, case: &[u8]) {
@@ -20,6 +22,7 @@ fn answer(kind: Kind, case: &[u8]) {
         Kind::Steps => steps::answer(case),
         Kind::Clients => clients::answer(case),
         Kind::Runs => runs::answer(case),
+        Kind::Choosing => choosing_sheets::answer(case),
     }
 }
 

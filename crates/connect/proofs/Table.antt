@@ -19,7 +19,7 @@ use Rattle.model.specs.Search.{at-start, Search, member, addAll, search, search
 use Rattle.model.specs.Rounds.{Settled, settled}
 use Rattle.model.specs.Plan.{planRows}
 use Rattle.model.specs.Connect.{settledOf, rowsFor, counted, emitted, related}
-use Rattle.model.proofs.Lists.{is-true, getD-mem}
+use Rattle.model.proofs.Lists.{is-true, getD-mem, getD-map-in}
 use Rattle.model.proofs.Actions.{upto-mem}
 use Rattle.model.proofs.Situation.{is-same}
 use Rattle.model.proofs.Search.{Inv, search-inv, search-all, search-front}
@@ -57,11 +57,6 @@ places-all {A} (x ∷ l) front d =
     subst (λ (n : ℕ). map (λ i. getD (front ++ x ∷ l) i d) (upto n (length l)) ≡ l) size
     (subst (λ (xs : List A). map (λ i. getD xs i d) (upto (length (front ++ x ∷ [])) (length l)) ≡ l) (append-snoc front x l) ih) in
     rw (getD-append-seam front x l d, rest) refl
-
-getD-map-in : {A B : Type 0} (f : A → B) (l : List A) (i : ℕ) (d : B) (e : A) → i < length l → getD (map f l) i d ≡ f (getD l i e)
-getD-map-in f [] i d e h = absurd (omega arith)
-getD-map-in f (x ∷ l) zero d e h = refl
-getD-map-in f (x ∷ l) (suc i) d e h = getD-map-in f l i d e (omega arith)
 
 -- ---- sameness, as a test
 

@@ -200,6 +200,17 @@ module _ {A : Type 0} where
   getD-mem (x ∷ l) zero d h = List·Memᴰ·head refl
   getD-mem (x ∷ l) (suc i) d h = List·Memᴰ·tail (getD-mem l i d (omega arith))
 
+module _ {A B : Type 0} (f : A → B) where
+  pub getD-map-in : (l : List A) (i : ℕ) (d : B) (e : A) → i < length l → getD (map f l) i d ≡ f (getD l i e)
+  getD-map-in [] i d e h = absurd (omega arith)
+  getD-map-in (x ∷ l) zero d e h = refl
+  getD-map-in (x ∷ l) (suc i) d e h = getD-map-in l i d e (omega arith)
+
+  pub all-map : (p : B → Bool) (l : List A) → all (λ x. p (f x)) l ≡ all p (map f l)
+  unfolding all
+  all-map p [] = refl
+  all-map p (x ∷ l) = ap (λ (t : Bool). p (f x) && t) (all-map p l)
+
 -- ---- `combine`
 
 module _ {A B C : Type 0} (f : A → B → C) where

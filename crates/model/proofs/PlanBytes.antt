@@ -18,31 +18,31 @@ use Rattle.model.specs.Plan.{Move, moveBytes, rowBytes, rowsBytes, index
 use Rattle.model.proofs.Lists.{and-of, and-both, all-elim, cond-yes}
 
 -- the bytes xs stand at i in b
-abbrev At : List ℕ → ℕ → List ℕ → Type 0
+abbrev pub At : List ℕ → ℕ → List ℕ → Type 0
 At b i xs = (j : ℕ) → j < length xs → getD b (i + j) 0 ≡ getD xs j 0
 
-at-left : (b : List ℕ) (i : ℕ) (xs ys : List ℕ) → At b i (xs ++ ys) → At b i xs
+pub at-left : (b : List ℕ) (i : ℕ) (xs ys : List ℕ) → At b i (xs ++ ys) → At b i xs
 at-left b i xs ys h j l = h j (omega (arith, length-append xs ys)) ∙ List·getD-append xs ys 0 j l
 
-at-right : (b : List ℕ) (i : ℕ) (xs ys : List ℕ) → At b i (xs ++ ys) → At b (i + length xs) ys
+pub at-right : (b : List ℕ) (i : ℕ) (xs ys : List ℕ) → At b i (xs ++ ys) → At b (i + length xs) ys
 at-right b i xs ys h j l =
     ap (λ (n : ℕ). getD b n 0) (add-assoc i (length xs) j) ∙ h (length xs + j) (omega (arith, length-append xs ys)) ∙ getD-append-add xs ys j 0
 
-at-head : (b : List ℕ) (i x : ℕ) (xs : List ℕ) → At b i (x ∷ xs) → byte b i ≡ x
+pub at-head : (b : List ℕ) (i x : ℕ) (xs : List ℕ) → At b i (x ∷ xs) → byte b i ≡ x
 unfolding byte
 at-head b i x xs h = ap (λ (n : ℕ). getD b n 0) (sym (add-zero i)) ∙ h 0 (omega arith)
 
-at-tail : (b : List ℕ) (i x : ℕ) (xs : List ℕ) → At b i (x ∷ xs) → At b (i + 1) xs
+pub at-tail : (b : List ℕ) (i x : ℕ) (xs : List ℕ) → At b i (x ∷ xs) → At b (i + 1) xs
 at-tail b i x xs h j l = ap (λ (n : ℕ). getD b n 0) (omega arith) ∙ h (suc j) (omega arith)
 
-at-cast : (b : List ℕ) (i i′ : ℕ) (xs : List ℕ) → i ≡ i′ → At b i xs → At b i′ xs
+pub at-cast : (b : List ℕ) (i i′ : ℕ) (xs : List ℕ) → i ≡ i′ → At b i xs → At b i′ xs
 at-cast b i i′ xs e h = subst (λ (n : ℕ). At b n xs) e h
 
 at-low : (b : List ℕ) (i x : ℕ) → At b i (le16 x) → word b i ≡ x % 65536
 unfolding le16 word
 at-low b i x h = omega (arith, at-head b i (x % 256) (x / 256 % 256 ∷ []) h, at-head b (i + 1) (x / 256 % 256) [] (at-tail b i (x % 256) (x / 256 % 256 ∷ []) h))
 
-at-word : (b : List ℕ) (i x : ℕ) → At b i (le16 x) → x < 65536 → word b i ≡ x
+pub at-word : (b : List ℕ) (i x : ℕ) → At b i (le16 x) → x < 65536 → word b i ≡ x
 at-word b i x h l = omega (arith, at-low b i x h)
 
 pub length-16 : (x : ℕ) → length (le16 x) ≡ 2

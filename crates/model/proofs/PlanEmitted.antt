@@ -66,7 +66,7 @@ rising-ascending f (x ∷ []) r = tt
 rising-ascending f (x ∷ y ∷ l) r =
     and-of (ltb x y) (ascending (map (λ c. record { code = c; to = f c }) (y ∷ l))) (lt→ltb x y (r .0 y (List·Memᴰ·head refl))) (rising-ascending f (y ∷ l) (r .1))
 
-place-lt : {S : Type 0} (same : S → S → Bool) (isSame : IsSame same) {t : S} {l : List S} → List·Memᴰ t l → place (same t) l < length l
+pub place-lt : {S : Type 0} (same : S → S → Bool) (isSame : IsSame same) {t : S} {l : List S} → List·Memᴰ t l → place (same t) l < length l
 unfolding place
 place-lt {S} same isSame {t} (List·Memᴰ·head {x = y} {xs = ys} e) = go (same t y) (subst (λ (z : S). T (same t z)) e (isSame .reflexive t))
   where

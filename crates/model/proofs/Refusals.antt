@@ -19,12 +19,12 @@ OnlyRefused P (good a) = Unit {0}
 OnlyRefused P (refusal e) = P e
 
 module _ {E : Type 0} (P : E → Type 0) where
-  only-check : {A : Type 0} (ok : Bool) (e : E) (r : Reading E A) → P e → OnlyRefused P r → OnlyRefused P (check ok e r)
+  pub only-check : {A : Type 0} (ok : Bool) (e : E) (r : Reading E A) → P e → OnlyRefused P r → OnlyRefused P (check ok e r)
   unfolding check
   only-check true e r p o = o
   only-check false e r p o = p
 
-  only-then : {A B : Type 0} (r : Reading E A) (f : A → Reading E B) → OnlyRefused P r → ((a : A) → OnlyRefused P (f a)) → OnlyRefused P (then r f)
+  pub only-then : {A B : Type 0} (r : Reading E A) (f : A → Reading E B) → OnlyRefused P r → ((a : A) → OnlyRefused P (f a)) → OnlyRefused P (then r f)
   unfolding then
   only-then (good a) f o g = g a
   only-then (refusal e) f o g = o

@@ -18,7 +18,7 @@ use Rattle.model.proofs.Actions.{action}
 -- ---- readings
 
 -- a refusal is not a result
-never-good : {E A : Type 0} {e : E} {a : A} → _≡_ {A = Reading E A} (refusal e) (good a) → ⊥
+pub never-good : {E A : Type 0} {e : E} {a : A} → _≡_ {A = Reading E A} (refusal e) (good a) → ⊥
 never-good p = let z : _≡_ {A = ℕ} 0 1 = cc in omega arith
 
 pub good-injective : {E A : Type 0} {a a′ : A} → _≡_ {A = Reading E A} (good a) (good a′) → a ≡ a′
@@ -39,15 +39,15 @@ then-good (refusal e) f p = absurd (never-good p)
 -- ---- lists that are read
 
 -- a list of so many elements, for each of which something holds
-record Each {A : Type 0} (P : A → Type 0) (left : ℕ) (l : List A) : Type 0 where
-  size : length l ≡ left
-  holds : (x : A) → List·Memᴰ x l → P x
+pub record Each {A : Type 0} (P : A → Type 0) (left : ℕ) (l : List A) : Type 0 where
+  pub size : length l ≡ left
+  pub holds : (x : A) → List·Memᴰ x l → P x
 
 module _ {A : Type 0} (P : A → Type 0) where
-  each-none : {l : List A} → [] ≡ l → Each P 0 l
+  pub each-none : {l : List A} → [] ≡ l → Each P 0 l
   each-none p = subst (Each P 0) p (record { size = refl; holds = λ x m. absurd (List·Memᴰ·not-nil m) })
 
-  each-one-more : {x : A} {left : ℕ} {r l : List A} → P x → Each P left r → x ∷ r ≡ l → Each P (suc left) l
+  pub each-one-more : {x : A} {left : ℕ} {r l : List A} → P x → Each P left r → x ∷ r ≡ l → Each P (suc left) l
   each-one-more {x} h e p =
       subst (Each P (suc _)) p
       (record {
@@ -71,7 +71,7 @@ offered-below s j h o =
     (λ t. omega (arith, ltb→lt j j (and-both (ltb j j) (offers s j) t .0))) o
 
 -- a mask with no stray bit has actions with names only
-mask-named : (n role mask j : ℕ) → j < 14 → T (not (strayBit n role mask)) → T (has mask j) → name j < n
+pub mask-named : (n role mask j : ℕ) → j < 14 → T (not (strayBit n role mask)) → T (has mask j) → name j < n
 unfolding strayBit
 mask-named n role mask j h clean o =
     let nameless : ℕ → Bool = λ i. has mask i && leb n (name i) in

@@ -40,7 +40,7 @@ one-shifted n most {width} h l =
 
 -- ---- counts of what passes a test
 module _ {p q : ℕ → Bool} (same : (i : ℕ) → p i ≡ q i) where
-  keep-same : (xs : List ℕ) → keep p xs ≡ keep q xs
+  pub keep-same : (xs : List ℕ) → keep p xs ≡ keep q xs
   unfolding keep
   keep-same [] = refl
   keep-same (x ∷ xs) = simp (same x, keep-same xs)
@@ -62,7 +62,7 @@ count-next p first zero = refl
 count-next p first (suc count) = count-cond _ _ _ _ (p (suc first)) (count-next p (suc first) count)
 
 -- those below j, counted among more
-count-below : (p : ℕ → Bool) (count j : ℕ) → j ≤ count
+pub count-below : (p : ℕ → Bool) (count j : ℕ) → j ≤ count
     → length (keep (λ i. ltb i j && p i) (upto 0 count)) ≡ length (keep p (upto 0 j))
 unfolding keep upto
 count-below p count zero h =

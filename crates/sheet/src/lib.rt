@@ -10,7 +10,7 @@ ghost use Rattle.sheet.specs.Answers.{findingOf};
 ghost use Rattle.sheet.specs.Whole.{IsSheet, IsState, rowStart};
 ghost use Rattle.sheet.specs.Offer.{offerIn, placeIn, IsOffered};
 
-mod parts;
+pub mod parts;
 
 use little_endian::word_at;
 use parts::check_states;
@@ -51,7 +51,7 @@ pub fn partner(j: u8) -> u8
 }
 
 // How many of the bits below j a mask has.
-fn ones_below(mask: u16, j: u8) -> usize
+pub fn ones_below(mask: u16, j: u8) -> usize
     requires { ⌜ j ≤ 16 ⌝ }
     ensures { λ r. ⌜ r ≡ onesBelow mask j ⌝ }
 {

@@ -1,8 +1,9 @@
-//! Document 01's connecting, stepping and client check, written from the document and for speed: a third
-//! implementation, beside the crates and the reference program. It shares nothing with them. The benchmark
-//! compares the crates with it, then measures them against it.
+//! Document 01's connecting, stepping and client check, and the conversion of choosing sheets (document 02, request
+//! 1/13), written from the documents and for speed: a third implementation, beside the crates and the reference
+//! program. It shares nothing with them. The benchmark compares the crates with it, then measures them against it.
 #![forbid(unsafe_code)]
 
+mod choosing;
 mod client;
 mod connect;
 mod index;
@@ -13,6 +14,7 @@ mod rounds;
 mod sheet;
 mod situation;
 
+pub use choosing::convert;
 pub use client::complies;
 pub use connect::Workspace;
 pub use plan::step;

@@ -11,11 +11,11 @@ pub const SUCCESS: u16 = 1 << 14;
 /// The bits of all actions.
 pub const ACTIONS: u16 = SUCCESS - 1;
 
-const TRAILER: usize = 6;
-const CLOSING: u8 = 0xC5;
-const MOST_STATES: usize = 64;
-const MOST_NAMES: u8 = 7;
-const MOST_READY: u8 = 8;
+pub const TRAILER: usize = 6;
+pub const CLOSING: u8 = 0xC5;
+pub const MOST_STATES: usize = 64;
+pub const MOST_NAMES: u8 = 7;
+pub const MOST_READY: u8 = 8;
 
 /// A ready set that is none: nothing has its last bit.
 const NONE: u16 = u16::MAX;
@@ -62,7 +62,7 @@ impl Contract {
         let rows = self.read_trailer(sheet).map_err(|number| (number, 0))?;
         let entries = &sheet[rows..];
         let rows = &sheet[..rows];
-        let unwanted = self.unwanted();
+        let unwanted = unwanted(self.n, self.role);
         let mut at = 0;
         for state in 0..self.count {
             let entry = 2 * state as usize;
@@ -96,13 +96,13 @@ impl Contract {
         (self.count, self.n, self.role) = (count, n, role);
         Ok(index)
     }
+}
 
-    /// The bits that no ready set may have.
-    fn unwanted(&self) -> u16 {
-        let names = (1 << self.n) - 1;
-        let mark = if self.role == CLIENT { SUCCESS } else { 0 };
-        !(names | names << 7 | mark)
-    }
+/// The bits that no ready set over n names may have in a role.
+pub fn unwanted(n: u8, role: u8) -> u16 {
+    let names = (1 << n) - 1;
+    let mark = if role == CLIENT { SUCCESS } else { 0 };
+    !(names | names << 7 | mark)
 }
 
 /// Reads the row at an offset and gives its end, or the first of refusals 4 to 7.
@@ -180,6 +180,6 @@ impl Iterator for Bits {
 }
 
 #[inline]
-fn word(low: u8, high: u8) -> u16 {
+pub fn word(low: u8, high: u8) -> u16 {
     u16::from_le_bytes([low, high])
 }

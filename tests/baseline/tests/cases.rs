@@ -1,6 +1,6 @@
-//! M1 to M13, M1's bytes, and the edges that document 01 names.
+//! M1 to M13, M1's bytes, and the edges that document 01 names; and those of choosing sheets.
 
-use baseline::{complies, step, Answer, Workspace, LONGEST_PLAN};
+use baseline::{complies, convert, step, Answer, Workspace, LONGEST_PLAN};
 
 const A: u16 = 1 << 0;
 const B: u16 = 1 << 1;
@@ -149,4 +149,110 @@ fn a_client_succeeds_or_waits_for_ever() {
     assert_eq!(complies(&stuck, &service), (0, 0, 0, false));
     assert_eq!(complies(&service, &happy), (8, 1, 0, false));
     assert_eq!(complies(&happy, &[]), (1, 2, 0, false));
+}
+
+/// A choosing sheet of these rows.
+fn choosing(n: u8, rows: &[Vec<u8>]) -> Vec<u8> {
+    let (mut bytes, mut index) = (Vec::new(), Vec::new());
+    for row in rows {
+        index.extend((bytes.len() as u16).to_le_bytes());
+        bytes.extend(row);
+    }
+    let offset = (bytes.len() as u16).to_le_bytes();
+    bytes.extend(index);
+    bytes.extend(offset);
+    bytes.extend([rows.len() as u8, n, 0, 0xC6]);
+    bytes
+}
+
+/// The number for these rows, with more lent than any sheet needs. A refusal leaves it as it was.
+fn number_of(rows: &[Vec<u8>]) -> u8 {
+    let mut sheet = [0xEE; 3000];
+    let (number, length) = convert(&choosing(7, rows), &mut sheet);
+    assert_eq!(number == 0, length > 0);
+    assert!(sheet[length.into()..].iter().all(|byte| *byte == 0xEE));
+    number
+}
+
+/// A hiding row, an open row that offers `a`, and the end.
+fn moves(rows: &[u8]) -> Vec<u8> {
+    [&[0, rows.len() as u8], rows].concat()
+}
+
+fn by_a(rows: &[u8]) -> Vec<u8> {
+    [&[1, 1, 0, rows.len() as u8], rows].concat()
+}
+
+fn end() -> Vec<u8> {
+    vec![1, 0, 0]
+}
+
+/// An open row that offers these actions, all of which lead to row 0.
+fn back_by(mask: u16) -> Vec<u8> {
+    let [low, high] = mask.to_le_bytes();
+    [vec![1, low, high], [1, 0].repeat(mask.count_ones() as usize)].concat()
+}
+
+/// a(+)b: row 0 chooses by itself between the rows 1 and 2. The sheet is M7's new one.
+#[test]
+fn an_internal_choice_byte_for_byte() {
+    let rows = [moves(&[1, 2]), vec![1, 1, 0, 1, 3], vec![1, 2, 0, 1, 3], end()];
+    let expected = sheet(2, 0, CASES[6].new);
+    for room in [expected.len(), expected.len() + 9] {
+        let mut lent = vec![0xEE; room];
+        assert_eq!(convert(&choosing(2, &rows), &mut lent), (0, expected.len() as u16));
+        assert_eq!(lent[..expected.len()], expected);
+        assert!(lent[expected.len()..].iter().all(|byte| *byte == 0xEE));
+    }
+    let mut short = vec![0xEE; expected.len() - 1];
+    assert_eq!(convert(&choosing(2, &rows), &mut short), (13, 0));
+    assert!(short.iter().all(|byte| *byte == 0xEE));
+}
+
+#[test]
+fn choosing_sheets_at_the_limits_of_their_form() {
+    assert_eq!(convert(&[], &mut []), (17, 0));
+    for (count, number) in [(0, 17), (1, 0), (32, 0), (33, 17)] {
+        assert_eq!(number_of(&vec![end(); count]), number);
+    }
+    for (count, number) in [(0, 17), (1, 0), (8, 0), (9, 17)] {
+        let some: Vec<u8> = (1..=count).collect();
+        for first in [moves(&some), by_a(&some)] {
+            assert_eq!(number_of(&[vec![first], vec![end(); 9]].concat()), number);
+        }
+    }
+    for (rows, number) in [([1, 2], 0), ([1, 1], 17), ([2, 1], 17), ([2, 3], 17)] {
+        assert_eq!(number_of(&[moves(&rows), end(), end()]), number);
+        assert_eq!(number_of(&[by_a(&rows), end(), end()]), number);
+    }
+    assert_eq!(number_of(&[vec![2, 0, 0]]), 17);
+    assert_eq!(number_of(&[vec![1, 0, 0x40]]), 17);
+}
+
+#[test]
+fn circles_then_states_then_ready_sets() {
+    assert_eq!(number_of(&[moves(&[0])]), 18);
+    assert_eq!(number_of(&[end(), moves(&[2]), moves(&[1])]), 18);
+    let chain: Vec<Vec<u8>> = (1..32).map(|row| moves(&[row])).collect();
+    assert_eq!(number_of(&[chain.clone(), vec![end()]].concat()), 0);
+    assert_eq!(number_of(&[chain, vec![moves(&[0])]].concat()), 18);
+    // Which of the last letters were a: 2 to the power of so many rows behind the first.
+    let letters = |rows: u8| -> Vec<Vec<u8>> {
+        let both = |row| vec![1, 3, 0, 1, row + 1, 1, row + 1];
+        [vec![vec![1, 3, 0, 2, 0, 1, 1, 0]], (1..rows).map(both).collect()].concat()
+    };
+    // The last of them is a choice among so many ready sets.
+    let crowded = |rows: u8, sets: u8| {
+        let first: Vec<u8> = (rows + 2..rows + 9).collect();
+        let rest: Vec<u8> = (rows + 9..rows + 2 + sets).collect();
+        let masks = (0..sets).map(|mask| back_by(mask.into())).collect();
+        let heads = vec![moves(&[vec![rows + 1], first].concat()), moves(&rest)];
+        [letters(rows), heads, masks].concat()
+    };
+    assert_eq!(number_of(&[letters(6), vec![end()]].concat()), 0);
+    assert_eq!(number_of(&[letters(7), vec![end()]].concat()), 19);
+    assert_eq!(number_of(&crowded(6, 8)), 0);
+    assert_eq!(number_of(&crowded(6, 9)), 20);
+    assert_eq!(number_of(&crowded(7, 9)), 19);
+    assert_eq!(number_of(&[letters(7), vec![end(), moves(&[8])]].concat()), 18);
 }

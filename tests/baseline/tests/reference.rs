@@ -1,7 +1,7 @@
-//! Agreement with the reference program on the data that is stored for the test programs pair_cases, step_cases and
-//! client_cases. tests/reference/README.md says how the records and the lines are laid out.
+//! Agreement with the reference program on the data that is stored for the test programs pair_cases, step_cases,
+//! client_cases and choosing_cases. tests/reference/README.md says how the records and the lines are laid out.
 
-use baseline::{complies, step, Workspace};
+use baseline::{complies, convert, step, Workspace};
 use std::path::Path;
 
 /// The stored input of a test program and what it is to print.
@@ -72,5 +72,15 @@ fn clients() {
         let behind = 2 + word(record, 0);
         let (number, sheet, state, yes) = complies(&record[2..behind], &record[behind..]);
         vec![number.into(), sheet.into(), state.into(), yes.into()]
+    });
+}
+
+#[test]
+fn choosing_sheets() {
+    agree("choosing_cases", 0, |record| {
+        let mut sheet: Vec<u8> = (0..word(record, 0)).map(|place| !(place as u8)).collect();
+        let (number, length) = convert(&record[2..], &mut sheet);
+        let answer = [number.into(), 0, 0, length.into()];
+        answer.into_iter().chain(sheet.into_iter().map(u64::from)).collect()
     });
 }

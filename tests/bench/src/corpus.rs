@@ -1,4 +1,4 @@
-//! The files of inputs that corpus.py writes.
+//! The files of inputs that corpus.py writes, with choosing_corpus.py.
 
 use crate::connector::Call;
 use std::path::Path;
@@ -16,6 +16,13 @@ impl Input {
     pub fn call(&self) -> Call<'_> {
         Call { k: self.k, old: &self.old, new: &self.new, records: self.records }
     }
+}
+
+/// A choosing sheet to be converted.
+pub struct Choosing {
+    pub name: String,
+    pub bytes: Vec<u8>,
+    pub room: usize,
 }
 
 /// The rest of a file.
@@ -37,19 +44,37 @@ impl Rest<'_> {
         self.bytes(length)
     }
 
+    fn name(&mut self) -> String {
+        String::from_utf8(self.measured(1)).expect("a name in UTF-8")
+    }
+
+    fn choosing(&mut self) -> Choosing {
+        let (name, room) = (self.name(), self.number(2));
+        Choosing { name, bytes: self.measured(2), room }
+    }
+
     fn input(&mut self) -> Input {
-        let name = String::from_utf8(self.measured(1)).expect("a name in UTF-8");
+        let name = self.name();
         let (records, room, k) = (self.number(2), self.number(4), self.number(1) as u8);
         Input { name, k, old: self.measured(2), new: self.measured(2), records, room }
     }
 }
 
-pub fn read(path: &Path) -> Vec<Input> {
+/// The records of a file, each read in the same way.
+fn records<T>(path: &Path, record: fn(&mut Rest) -> T) -> Vec<T> {
     let data = std::fs::read(path).unwrap_or_else(|error| panic!("{}: {error}", path.display()));
     let mut rest = Rest(&data);
-    let mut inputs = Vec::new();
+    let mut records = Vec::new();
     while !rest.0.is_empty() {
-        inputs.push(rest.input());
+        records.push(record(&mut rest));
     }
-    inputs
+    records
+}
+
+pub fn read(path: &Path) -> Vec<Input> {
+    records(path, |rest| rest.input())
+}
+
+pub fn choosing(path: &Path) -> Vec<Choosing> {
+    records(path, |rest| rest.choosing())
 }

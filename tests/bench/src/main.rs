@@ -1,6 +1,7 @@
-//! `bench FOLDER` compares the connectors on all inputs of the folder, then times them on the benchmark's;
-//! `bench FOLDER describe` says what the benchmark's inputs are.
+//! `bench FOLDER` compares the connectors on all inputs of the folder, then times them on the benchmark's; the same for
+//! the conversion of choosing sheets. `bench FOLDER describe` says what the benchmark's inputs are.
 
+mod choosing;
 mod connector;
 mod corpus;
 mod product;
@@ -9,6 +10,7 @@ mod timing;
 use baseline::{Answer, LONGEST_PLAN};
 use connector::{connectors, Connector};
 use corpus::Input;
+use std::hint::black_box;
 use std::path::Path;
 
 type Connectors = Vec<(&'static str, Box<dyn Connector>)>;
@@ -82,7 +84,9 @@ fn timed(connectors: &mut Connectors, inputs: &[Input], answers: &[Answer]) {
     println!("   ratio");
     let mut rows = Vec::new();
     for (input, answer) in inputs.iter().zip(answers) {
-        let medians = timing::medians(connectors, input, &mut plan);
+        let medians = timing::medians(connectors, |(_, connector)| {
+            black_box(connector.connect(black_box(&input.call()), &mut plan[..input.room]));
+        });
         print!("{:34} {}", input.name, figures(answer));
         for median in &medians {
             print!(" {:12.3}", median / 1000.0);
@@ -103,14 +107,20 @@ fn main() {
     let most = inputs.iter().chain(&random).map(|input| input.records).max().unwrap_or(0);
     let mut connectors = connectors(most);
     let answers = compared(&mut connectors, &inputs);
+    let [choosing, random_choosing] = ["choosing", "random-choosing"].map(|name| corpus::choosing(&folder.join(name)));
+    let converted = choosing::compared(&choosing);
     if arguments.get(1).is_some_and(|word| word == "describe") {
         println!("{:34} {FIGURES}", "input");
         for (input, answer) in inputs.iter().zip(&answers) {
             println!("{:34} {}", input.name, figures(answer));
         }
+        choosing::describe(&choosing, &converted);
         return;
     }
     compared(&mut connectors, &random);
     println!("compared: {} inputs, {} random pairs", inputs.len(), random.len());
+    choosing::compared(&random_choosing);
+    println!("compared: {} choosing sheets, {} random ones", choosing.len(), random_choosing.len());
     timed(&mut connectors, &inputs, &answers);
+    choosing::timed(&choosing, &converted);
 }

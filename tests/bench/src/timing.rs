@@ -1,48 +1,45 @@
-//! Medians of the time of a call, all connectors taking turns.
+//! Medians of the time of a call, all contenders taking turns.
 
-use crate::connector::Connector;
-use crate::corpus::Input;
-use std::hint::black_box;
 use std::time::{Duration, Instant};
 
 /// Short calls are repeated until a sample takes this long.
 const SAMPLE: Duration = Duration::from_micros(100);
 
-/// The time for all samples of a connector, and the bounds of their number.
+/// The time for all samples of a contender, and the bounds of their number.
 const IN_ALL: Duration = Duration::from_millis(200);
 const LEAST: u128 = 15;
 const MOST: u128 = 501;
 
-fn sample(connector: &mut dyn Connector, input: &Input, calls: u32, plan: &mut [u8]) -> Duration {
+fn sample<C>(contender: &mut C, calls: u32, call: &mut impl FnMut(&mut C)) -> Duration {
     let started = Instant::now();
     for _ in 0..calls {
-        black_box(connector.connect(black_box(&input.call()), &mut plan[..input.room]));
+        call(contender);
     }
     started.elapsed()
 }
 
 /// How many calls make a sample.
-fn calls_of(connector: &mut dyn Connector, input: &Input, plan: &mut [u8]) -> u32 {
+fn calls_of<C>(contender: &mut C, call: &mut impl FnMut(&mut C)) -> u32 {
     let mut calls = 1;
-    while sample(connector, input, calls, plan) < SAMPLE {
+    while sample(contender, calls, call) < SAMPLE {
         calls *= 2;
     }
     calls
 }
 
-/// The median time of a call, in nanoseconds, of each connector.
-pub fn medians(connectors: &mut [(&str, Box<dyn Connector>)], input: &Input, plan: &mut [u8]) -> Vec<f64> {
+/// The median time of a call, in nanoseconds, of each contender.
+pub fn medians<C>(contenders: &mut [C], mut call: impl FnMut(&mut C)) -> Vec<f64> {
     let mut taken = Vec::new();
     let mut samples = MOST;
-    for (_, connector) in connectors.iter_mut() {
-        let calls = calls_of(connector.as_mut(), input, plan);
-        let once = sample(connector.as_mut(), input, calls, plan).as_nanos().max(1);
+    for contender in contenders.iter_mut() {
+        let calls = calls_of(contender, &mut call);
+        let once = sample(contender, calls, &mut call).as_nanos().max(1);
         samples = samples.min((IN_ALL.as_nanos() / once).max(LEAST));
         taken.push((calls, Vec::new()));
     }
     for _ in 0..samples {
-        for ((_, connector), (calls, times)) in connectors.iter_mut().zip(&mut taken) {
-            let time = sample(connector.as_mut(), input, *calls, plan);
+        for (contender, (calls, times)) in contenders.iter_mut().zip(&mut taken) {
+            let time = sample(contender, *calls, &mut call);
             times.push(time.as_nanos() as f64 / f64::from(*calls));
         }
     }

@@ -7,6 +7,7 @@ pub enum Call {
     Connect(Connect),
     Step(Step),
     Complies(Complies),
+    FromChoosing(FromChoosing),
 }
 
 /// With `null`, slices without elements pass as null pointers. With `small`, the lent records hold small numbers.
@@ -33,6 +34,13 @@ pub struct Step {
 pub struct Complies {
     pub client: Vec<u8>,
     pub service: Vec<u8>,
+    pub null: bool,
+}
+
+#[derive(Clone, Debug, Default, PartialEq, Eq)]
+pub struct FromChoosing {
+    pub choosing: Vec<u8>,
+    pub room: usize,
     pub null: bool,
 }
 
@@ -108,6 +116,7 @@ impl Call {
             Call::Connect(_) => "connect",
             Call::Step(_) => "step",
             Call::Complies(_) => "complies",
+            Call::FromChoosing(_) => "from_choosing",
         }
     }
 
@@ -126,6 +135,9 @@ impl Call {
             ],
             Call::Complies(Complies { client, service, null }) => vec![
                 ("client", Field::Bytes(client)), ("service", Field::Bytes(service)), ("null", Field::Flag(null)),
+            ],
+            Call::FromChoosing(FromChoosing { choosing, room, null }) => vec![
+                ("choosing", Field::Bytes(choosing)), ("room", Field::Size(room)), ("null", Field::Flag(null)),
             ],
         }
     }
@@ -146,6 +158,7 @@ impl Call {
             "connect" => Call::Connect(Connect::default()),
             "step" => Call::Step(Step::default()),
             "complies" => Call::Complies(Complies::default()),
+            "from_choosing" => Call::FromChoosing(FromChoosing::default()),
             _ => return None,
         };
         for line in lines {
@@ -167,7 +180,9 @@ mod tests {
         let connect = Connect::new(&mut chance, 3, vec![1, 0xC5], vec![], 5, 21);
         let step = Step { plan: vec![0, 0xFF], state: 65535, code: 255, null: true };
         let complies = Complies { client: vec![9], ..Complies::default() };
-        for call in [Call::Connect(connect), Call::Step(step), Call::Complies(complies)] {
+        let converted = FromChoosing { choosing: vec![1, 0xC6], room: 2118, null: true };
+        let calls = [Call::Connect(connect), Call::Step(step), Call::Complies(complies), Call::FromChoosing(converted)];
+        for call in calls {
             assert_eq!(Call::read(&format!("# why\n{}", call.text())), Some(call));
         }
         assert_eq!(Call::read("step\ncode 256\n"), None);

@@ -41,7 +41,7 @@ impl State {
 }
 
 /// The places of the ones of a mask.
-fn ones(mask: u16) -> impl Iterator<Item = usize> {
+pub fn ones(mask: u16) -> impl Iterator<Item = usize> {
     (0..16).filter(move |place| mask >> place & 1 == 1)
 }
 

@@ -1,8 +1,9 @@
-//! Calls the product's three functions and the baseline's on the same inputs, and compares everything that the
+//! Calls the product's functions and the baseline's on the same inputs, and compares everything that the
 //! calls answer and leave behind.
 
 pub mod call;
 pub mod chance;
+pub mod choosing;
 pub mod contract;
 pub mod edit;
 pub mod failures;

@@ -1,12 +1,14 @@
-//! Sheets and plans taken apart into rows, as index and trailer say, whether or not the rows are right; so that a
-//! state, a ready set, an action or a move can be left out and all offsets still fit.
+//! Sheets, plans and choosing sheets taken apart into rows, as index and trailer say, whether or not the rows are right;
+//! so that a state, a ready set, an action or a move can be left out and all offsets still fit.
 
+use crate::choosing::Row;
 use std::ops::Range;
 
 #[derive(Clone, Copy, PartialEq, Eq)]
 enum Kind {
     Sheet,
     Plan,
+    Choosing,
 }
 
 pub struct Loose {
@@ -16,7 +18,7 @@ pub struct Loose {
     rest: Vec<u8>,
 }
 
-/// What can be left out: states, or in the row of a state a ready set or move, or an action.
+/// What can be left out: states, or in the row of a state a ready set, a move or a row that it leads to, or an action.
 pub enum Edit {
     States(Range<usize>),
     Part(usize, usize),
@@ -40,8 +42,12 @@ impl Loose {
         Some(Loose { kind: Kind::Plan, rows, rest: trailer[6..].to_vec() })
     }
 
+    pub fn choosing(bytes: &[u8]) -> Option<Loose> {
+        Loose::sheet(bytes).map(|sheet| Loose { kind: Kind::Choosing, ..sheet })
+    }
+
     pub fn bytes(&self) -> Vec<u8> {
-        let (offset_width, count_width) = if self.kind == Kind::Sheet { (2, 1) } else { (4, 2) };
+        let (offset_width, count_width) = if self.kind == Kind::Plan { (4, 2) } else { (2, 1) };
         let (mut bytes, mut index) = (Vec::<u8>::new(), Vec::<u8>::new());
         for row in &self.rows {
             index.extend(&bytes.len().to_le_bytes()[..offset_width]);
@@ -64,9 +70,12 @@ impl Loose {
             size /= 2;
         }
         for (state, row) in self.rows.iter().enumerate() {
-            let parts = usize::from(row.first().copied().unwrap_or(0));
+            let parts = match self.kind {
+                Kind::Choosing => row.len(),
+                _ => row.first().copied().unwrap_or(0).into(),
+            };
             edits.extend((0..parts).map(|part| Edit::Part(state, part)));
-            let actions = if self.kind == Kind::Sheet { 15 } else { 0 };
+            let actions = if self.kind == Kind::Plan { 0 } else { 15 };
             edits.extend((0..actions).map(|action| Edit::Action(state, action)));
         }
         edits
@@ -78,37 +87,49 @@ impl Loose {
         match edit {
             Edit::States(range) => {
                 rows.drain(range.clone());
-                rows.iter_mut().for_each(|row| self.redirect(row, range));
+                rows.iter_mut().for_each(|row| *row = self.redirected(row, range));
             }
             Edit::Part(state, part) => rows[*state] = self.without_part(&rows[*state], *part)?,
-            Edit::Action(state, action) => rows[*state] = without_action(&rows[*state], 1 << action)?,
+            Edit::Action(state, action) => rows[*state] = self.without_action(&rows[*state], *action)?,
         }
         Some(Loose { kind: self.kind, rows, rest: self.rest.clone() })
     }
 
-    /// Lets a row lead to the start instead of states left out, and to the others by their new numbers.
-    fn redirect(&self, row: &mut [u8], gone: &Range<usize>) {
+    /// A row that leads to the start instead of states left out, and to the others by their new numbers.
+    fn redirected(&self, row: &[u8], gone: &Range<usize>) -> Vec<u8> {
+        let after = |state: usize| match gone.contains(&state) {
+            true => 0,
+            false => state - if state < gone.end { 0 } else { gone.len() },
+        };
+        if self.kind == Kind::Choosing {
+            return Row::read(row).map_or(row.to_vec(), |mut row| {
+                row.lead(|other| after(other.into()) as u8);
+                row.bytes()
+            });
+        }
         let parts = usize::from(row.first().copied().unwrap_or(0));
         let (first, step, width) = if self.kind == Kind::Sheet { (1 + 2 * parts, 1, 1) } else { (2, 3, 2) };
+        let mut row = row.to_vec();
         for at in (first..row.len().saturating_sub(width - 1)).step_by(step) {
             let state = number(&row[at..at + width]);
-            let after = if gone.contains(&state) { 0 } else { state - if state < gone.end { 0 } else { gone.len() } };
-            row[at..at + width].copy_from_slice(&after.to_le_bytes()[..width]);
+            row[at..at + width].copy_from_slice(&after(state).to_le_bytes()[..width]);
         }
+        row
     }
 
     fn without_part(&self, row: &[u8], part: usize) -> Option<Vec<u8>> {
-        if self.kind == Kind::Sheet {
-            let mut masks = masks_of(row)?;
-            masks.remove(part);
-            return with_masks(row, masks);
+        match self.kind {
+            Kind::Sheet => without_mask(row, part),
+            Kind::Plan => without_move(row, part),
+            Kind::Choosing => Row::read(row)?.without_row(part).map(|row| row.bytes()),
         }
-        let mut row = row.to_vec();
-        let made = 1 + 3 * part..4 + 3 * part;
-        row.get(made.clone())?;
-        row.drain(made);
-        row[0] -= 1;
-        Some(row)
+    }
+
+    fn without_action(&self, row: &[u8], action: usize) -> Option<Vec<u8>> {
+        match self.kind {
+            Kind::Choosing => Row::read(row)?.without_action(action).map(|row| row.bytes()),
+            _ => without_bit(row, 1 << action),
+        }
     }
 }
 
@@ -146,9 +167,25 @@ fn with_masks(row: &[u8], masks: Vec<u16>) -> Option<Vec<u8>> {
     Some(bytes)
 }
 
-fn without_action(row: &[u8], action: u16) -> Option<Vec<u8>> {
+fn without_mask(row: &[u8], part: usize) -> Option<Vec<u8>> {
+    let mut masks = masks_of(row)?;
+    masks.remove(part);
+    with_masks(row, masks)
+}
+
+/// A plan's row without a move, if it is there.
+fn without_move(row: &[u8], part: usize) -> Option<Vec<u8>> {
+    let mut row = row.to_vec();
+    let made = 1 + 3 * part..4 + 3 * part;
+    row.get(made.clone())?;
+    row.drain(made);
+    row[0] -= 1;
+    Some(row)
+}
+
+fn without_bit(row: &[u8], bit: u16) -> Option<Vec<u8>> {
     let before = masks_of(row)?;
-    let mut masks: Vec<u16> = before.iter().map(|mask| mask & !action).collect();
+    let mut masks: Vec<u16> = before.iter().map(|mask| mask & !bit).collect();
     if masks == before {
         return None;
     }
@@ -167,6 +204,18 @@ mod tests {
         let plan = [1, 0, 1, 0, 0, 0, 0, 0, 0, 4, 0, 0, 0, 5, 0, 0, 0, 2, 0, 2, 0];
         assert_eq!(Loose::sheet(&sheet).map(|sheet| sheet.bytes()), Some(sheet.to_vec()));
         assert_eq!(Loose::plan(&plan).map(|plan| plan.bytes()), Some(plan.to_vec()));
+    }
+
+    #[test]
+    fn a_row_an_action_and_a_successor_are_left_out() {
+        let rows = [[0, 1, 2].as_slice(), &[1, 0, 0], &[1, 3, 0, 2, 0, 2, 1, 1]].concat();
+        let bytes = [rows.as_slice(), &[0, 0, 3, 0, 6, 0], &[14, 0, 3, 2, 0, 0xC6]].concat();
+        let whole = Loose::choosing(&bytes);
+        assert_eq!(whole.as_ref().map(|sheet| sheet.bytes()), Some(bytes));
+        let left = [Edit::States(1..2), Edit::Action(1, 1), Edit::Part(1, 0)];
+        let left = left.iter().try_fold(whole.expect("rows"), |sheet, edit| sheet.without(edit));
+        let rows = [0, 1, 1, 1, 1, 0, 1, 1, 0, 0, 3, 0, 8, 0, 2, 2, 0, 0xC6];
+        assert_eq!(left.map(|sheet| sheet.bytes()), Some(rows.to_vec()));
     }
 
     #[test]

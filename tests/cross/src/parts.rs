@@ -1,5 +1,6 @@
 //! The inputs, in parts. Each part draws from a sequence of its own.
 
+mod choosing;
 mod clients;
 mod edits;
 mod empty;
@@ -29,7 +30,7 @@ impl Share {
 type Part = fn(&mut Runner, &mut Chance, Share) -> Checked;
 
 /// The parts, by name.
-pub const PARTS: [(&str, Part); 10] = [
+pub const PARTS: [(&str, Part); 14] = [
     ("nothing lent, nothing given", empty::run),
     ("lengths at and beyond the limits", lengths::run),
     ("random bytes of all lengths", noise::run),
@@ -40,6 +41,10 @@ pub const PARTS: [(&str, Part); 10] = [
     ("edited sheets and plans", edits::run),
     ("every byte of valid sheets changed", single::sheets),
     ("every byte of valid plans changed", single::plans),
+    ("choosing sheets", choosing::valid),
+    ("edited choosing sheets", choosing::edits),
+    ("every byte of choosing sheets changed", single::choosing_sheets),
+    ("choosing sheets of all lengths", choosing::lengths),
 ];
 
 /// An emitted plan that is not trivial, of at most so many bytes.

@@ -70,7 +70,7 @@ impl<'a> Runner<'a> {
     /// Checks a call, and gives the plan if it connects a pair.
     pub fn plan(&mut self, call: &Call) -> Checked<Option<Vec<u8>>> {
         let figures = self.check(call)?;
-        let lent = self.expected.answer(call).plan.filter(|_| figures[0] == 0);
+        let lent = self.expected.answer(call).lent.filter(|_| figures[0] == 0);
         Ok(lent.map(|plan| plan.inside()[..figures[6] as usize].to_vec()))
     }
 
@@ -103,7 +103,7 @@ impl<'a> Runner<'a> {
 }
 
 fn described(side: &str, outcome: &Outcome) -> String {
-    let lent = outcome.plan.map_or(&[][..], |plan| plan.all());
-    let plan: String = lent.iter().map(|byte| format!(" {byte:02x}")).collect();
-    format!("{side}: {:?}, all else as due: {}, lent plan with guards:{plan}", outcome.figures, outcome.as_due)
+    let lent = outcome.lent.map_or(&[][..], |lent| lent.all());
+    let bytes: String = lent.iter().map(|byte| format!(" {byte:02x}")).collect();
+    format!("{side}: {:?}, all else as due: {}, what was lent, with guards:{bytes}", outcome.figures, outcome.as_due)
 }

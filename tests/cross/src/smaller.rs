@@ -1,4 +1,4 @@
-//! A smaller input with the same fault: states, ready sets, actions and moves are left out, bytes are cut and
+//! A smaller input with the same fault: states, rows, ready sets, actions and moves are left out, bytes are cut and
 //! lowered, numbers lowered, one after the other, for as long as something can be.
 
 use crate::call::{Call, Field};
@@ -63,7 +63,7 @@ impl Search<'_> {
         self.bytes(field).map_or(0, |bytes| bytes.len())
     }
 
-    /// Leaves out of a sheet or a plan what can be left out.
+    /// Leaves out of a sheet, a plan or a choosing sheet what can be left out.
     fn leave_out(&mut self, field: usize) -> bool {
         let mut smaller = false;
         while self.leaves_one_out(field).is_some() {
@@ -73,7 +73,11 @@ impl Search<'_> {
     }
 
     fn leaves_one_out(&mut self, field: usize) -> Option<()> {
-        let take_apart = if self.best.fields()[field].0 == "plan" { Loose::plan } else { Loose::sheet };
+        let take_apart = match self.best.fields()[field].0 {
+            "plan" => Loose::plan,
+            "choosing" => Loose::choosing,
+            _ => Loose::sheet,
+        };
         let loose = take_apart(self.bytes(field)?)?;
         let found = loose.edits().into_iter().any(|edit| {
             let without = if self.in_time() { loose.without(&edit) } else { None };

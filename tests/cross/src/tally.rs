@@ -4,13 +4,14 @@ use crate::call::Call;
 use crate::target::Figures;
 
 /// The highest number of a refusal.
-const LAST: usize = 16;
+const LAST: usize = 20;
 
 /// The functions, and the numbers that each can answer.
-const FUNCTIONS: [(&str, &[usize]); 3] = [
+const FUNCTIONS: [(&str, &[usize]); 4] = [
     ("connect", &[0, 1, 2, 3, 4, 5, 6, 7, 8, 9, 10, 11, 12, 13]),
     ("step", &[0, 14, 15, 16]),
     ("complies", &[0, 1, 2, 3, 4, 5, 6, 7, 8, 9]),
+    ("from_choosing", &[0, 13, 17, 18, 19, 20]),
 ];
 
 #[derive(Default)]
@@ -20,6 +21,8 @@ pub struct Tally {
     situations: [u64; 4],
     after_removal: u64,
     yes: u64,
+    /// Choosing sheets converted to sheets of fewer than 100 bytes, than 1,000, and more.
+    converted: [u64; 3],
 }
 
 impl Tally {
@@ -29,6 +32,7 @@ impl Tally {
             Call::Connect(_) => 0,
             Call::Step(_) => 1,
             Call::Complies(_) => 2,
+            Call::FromChoosing(_) => 3,
         };
         self.numbers[function][number] += 1;
         if function == 0 && figures[3] > 0 {
@@ -36,6 +40,9 @@ impl Tally {
         }
         self.after_removal += u64::from(function == 0 && number == 0 && figures[5] > 0);
         self.yes += u64::from(function == 2 && figures[3] == 1);
+        if function == 3 && number == 0 {
+            self.converted[(figures[3].ilog10() as usize).saturating_sub(1).min(2)] += 1;
+        }
     }
 
     pub fn calls(&self) -> u64 {
@@ -58,30 +65,34 @@ impl Tally {
         if self.yes == 0 || self.yes == self.numbers[2][0] {
             missing.push("the client check did not say both yes and no".into());
         }
+        if self.converted.contains(&0) {
+            missing.push("no choosing sheets were converted to tens, hundreds or thousands of bytes".into());
+        }
         missing
     }
 
     pub fn table(&self) -> String {
         let mut lines = format!("{:>6}", "number");
         for (name, _) in FUNCTIONS {
-            lines += &format!(" {name:>9}");
+            lines += &format!(" {name:>13}");
         }
-        lines += &format!(" {:>9}\n", "calls");
+        lines += &format!(" {:>13}\n", "calls");
         for number in 0..=LAST {
             lines += &format!("{number:6}");
             for counts in &self.numbers {
-                lines += &format!(" {:9}", counts[number]);
+                lines += &format!(" {:13}", counts[number]);
             }
-            lines += &format!(" {:9}\n", self.numbers.iter().map(|counts| counts[number]).sum::<u64>());
+            lines += &format!(" {:13}\n", self.numbers.iter().map(|counts| counts[number]).sum::<u64>());
         }
         let [few, tens, hundreds, thousands] = self.situations;
         lines +=
             &format!("situations below 10: {few}, below 100: {tens}, below 1,000: {hundreds}, more: {thousands}\n");
         let no = self.numbers[2][0] - self.yes;
-        lines
-            + &format!(
-                "accepted after removals: {}; client complies: {}, does not: {no}\n",
-                self.after_removal, self.yes
-            )
+        lines += &format!(
+            "accepted after removals: {}; client complies: {}, does not: {no}\n",
+            self.after_removal, self.yes
+        );
+        let [tens, hundreds, thousands] = self.converted;
+        lines + &format!("converted to bytes below 100: {tens}, below 1,000: {hundreds}, more: {thousands}\n")
     }
 }

@@ -1,7 +1,7 @@
 //! A wrong side is caught, the input made small and stored, and the stored input replayed. That the right sides
 //! agree is tried at a small share.
 
-use cross::call::{Call, Complies, Connect, Step};
+use cross::call::{Call, Complies, Connect, FromChoosing, Step};
 use cross::chance::Chance;
 use cross::guarded::Guarded;
 use cross::parts::{Share, PARTS};
@@ -9,23 +9,23 @@ use cross::runner::{Checked, Ended, Runner};
 use cross::target::{Baseline, Figures, Outcome, Product, Target};
 use std::path::PathBuf;
 
-/// What a wrong side changes: the figures, the lent plan, or whether all else is as due.
+/// What a wrong side changes: the figures, the lent plan or output, or whether all else is as due.
 type Fault = fn(&Call, &mut Figures, &mut Guarded, &mut bool);
 
 /// The baseline with a fault.
 struct Wrong {
     right: Baseline,
-    plan: Guarded,
+    lent: Guarded,
     fault: Fault,
 }
 
 impl Target for Wrong {
     fn answer(&mut self, call: &Call) -> Outcome<'_> {
-        let Outcome { mut figures, plan, mut as_due } = self.right.answer(call);
-        let lent = plan.is_some();
-        self.plan = plan.cloned().unwrap_or_default();
-        (self.fault)(call, &mut figures, &mut self.plan, &mut as_due);
-        Outcome { figures, plan: lent.then_some(&self.plan), as_due }
+        let Outcome { mut figures, lent, mut as_due } = self.right.answer(call);
+        let some = lent.is_some();
+        self.lent = lent.cloned().unwrap_or_default();
+        (self.fault)(call, &mut figures, &mut self.lent, &mut as_due);
+        Outcome { figures, lent: some.then_some(&self.lent), as_due }
     }
 }
 
@@ -53,7 +53,7 @@ fn folder(name: &str) -> PathBuf {
 /// fault there.
 fn caught(name: &str, fault: Fault) -> Call {
     let folder = folder(name);
-    let mut wrong = Wrong { right: Baseline::new(), plan: Guarded::default(), fault };
+    let mut wrong = Wrong { right: Baseline::new(), lent: Guarded::default(), fault };
     let mut baseline = Baseline::new();
     let path = differs_in(run(&mut Runner::new(&mut baseline, &mut wrong, &folder)));
     let replayed = Runner::new(&mut baseline, &mut wrong, &folder).replay();
@@ -100,8 +100,8 @@ fn a_table_that_is_left_dirty() {
 
 #[test]
 fn a_byte_written_behind_a_refused_plan() {
-    let call = caught("room", |_, figures, plan, _| {
-        if figures[0] == 13 {
+    let call = caught("room", |call, figures, plan, _| {
+        if matches!(call, Call::Connect(_)) && figures[0] == 13 {
             plan.inside_mut().iter_mut().for_each(|byte| *byte = 0);
         }
     });
@@ -144,6 +144,73 @@ fn a_null_pointer_that_matters() {
         }
     });
     assert_eq!(call, Call::Step(Step { null: true, ..Step::default() }));
+}
+
+/// The choosing sheet that is left for a fault, and how much is lent.
+fn left_of(call: Call) -> (Vec<u8>, usize) {
+    match call {
+        Call::FromChoosing(FromChoosing { choosing, room, null: false }) => (choosing, room),
+        other => panic!("not small: {other:?}"),
+    }
+}
+
+#[test]
+fn a_circle_that_is_not_seen() {
+    let call = caught("circle", |_, figures, _, _| {
+        if figures[0] == 18 {
+            figures[0] = 13;
+        }
+    });
+    // One row, which leads to itself.
+    assert_eq!(left_of(call), (vec![0, 1, 0, 0, 0, 3, 0, 1, 0, 0, 0xC6], 0));
+}
+
+#[test]
+fn a_wrong_byte_of_a_converted_sheet() {
+    let call = caught("sheet", |call, figures, sheet, _| {
+        let length = figures[3] as usize;
+        if matches!(call, Call::FromChoosing(_)) && figures[0] == 0 && sheet.inside()[length - 4] == 2 {
+            sheet.inside_mut()[length - 7] ^= 1;
+        }
+    });
+    // Row 0 leads by one action to row 1, which offers nothing or moves on to row 0.
+    let (choosing, room) = left_of(call);
+    assert!(choosing.len() == 5 + 3 + 4 + 6 && room <= 4 + 4 + 4 + 6, "{choosing:?}, {room}");
+}
+
+#[test]
+fn a_byte_behind_a_converted_sheet() {
+    let call = caught("behind", |call, figures, sheet, _| {
+        let length = figures[3] as usize;
+        if matches!(call, Call::FromChoosing(_)) && figures[0] == 0 && length < sheet.inside().len() {
+            sheet.inside_mut()[length] ^= 1;
+        }
+    });
+    // The end alone.
+    assert_eq!(left_of(call), (vec![1, 0, 0, 0, 0, 3, 0, 1, 0, 0, 0xC6], 12));
+}
+
+#[test]
+fn a_byte_written_before_too_many_states_are_seen() {
+    let call = caught("states", |call, figures, sheet, _| {
+        if matches!(call, Call::FromChoosing(_)) && figures[0] == 19 {
+            sheet.inside_mut().iter_mut().take(1).for_each(|byte| *byte ^= 1);
+        }
+    });
+    let (choosing, room) = left_of(call);
+    assert!(choosing.len() < 100 && room == 1, "{choosing:?}, {room}");
+}
+
+#[test]
+fn too_many_ready_sets_written_all_the_same() {
+    let call = caught("ready", |_, figures, _, _| {
+        if figures[0] == 20 {
+            figures[0] = 0;
+        }
+    });
+    // Nine open rows with different masks, over four actions, and the hiding rows that lead to them.
+    let (choosing, room) = left_of(call);
+    assert!(choosing.len() < 110 && room == 0, "{choosing:?}, {room}");
 }
 
 #[test]

@@ -10,6 +10,8 @@
 
 int main(void)
 {
+    NUMBER(HEADER_VERSION);
+
     NUMBER(LONGEST_SHEET);
     NUMBER(MOST_SITUATIONS);
     NUMBER(LONGEST_PLAN);
@@ -31,6 +33,10 @@ int main(void)
     NUMBER(PLAN);
     NUMBER(STATE);
     NUMBER(MOVE);
+    NUMBER(CHOOSING);
+    NUMBER(CIRCLE);
+    NUMBER(STATES);
+    NUMBER(READY_SETS);
 
     STRUCT(adapter_record);
 
@@ -52,5 +58,11 @@ int main(void)
     FIELD(adapter_complies_answer, sheet);
     FIELD(adapter_complies_answer, state);
     FIELD(adapter_complies_answer, yes);
+
+    STRUCT(adapter_sheet_answer);
+    FIELD(adapter_sheet_answer, number);
+    FIELD(adapter_sheet_answer, sheet);
+    FIELD(adapter_sheet_answer, state);
+    FIELD(adapter_sheet_answer, length);
     return 0;
 }

@@ -1,19 +1,22 @@
 //! include/adapter.h says what tests/product declares, which the comparison holds to the library: the layout of what
-//! is lent and answered, and document 01's numbers. It needs a C compiler, as linking this test does.
+//! is lent and answered, and the documents' numbers. It needs a C compiler, as linking this test does.
 
 use baseline::{LONGEST_PLAN, LONGEST_SHEET, MOST_SITUATIONS};
-use product::{Answer, Compliance, Record, Stepped};
+use product::{Answer, Compliance, Record, SheetAnswer, Stepped};
 use std::mem::{align_of, offset_of, size_of};
 use std::path::{Path, PathBuf};
 use std::process::Command;
 
 const HERE: &str = env!("CARGO_MANIFEST_DIR");
 
-/// Document 01's words for the numbers 0 to 16.
+/// The header's, which rises with every change of it.
+const VERSION: u32 = 2;
+
+/// The words for the numbers, document 01's for 0 to 16.
 #[rustfmt::skip]
-const WORDS: [&str; 17] = [
+const WORDS: [&str; 21] = [
     "ACCEPTED", "LENGTH", "TRAILER", "INDEX", "ROW", "READY", "ACTION", "SUCCESSOR", "ROLE", "NAMES", "RANK",
-    "CAPACITY", "NO_ADAPTER", "ROOM", "PLAN", "STATE", "MOVE",
+    "CAPACITY", "NO_ADAPTER", "ROOM", "PLAN", "STATE", "MOVE", "CHOOSING", "CIRCLE", "STATES", "READY_SETS",
 ];
 
 /// A line with a struct's name, size and alignment, then for each field a line with its place and size.
@@ -32,7 +35,7 @@ macro_rules! laid_out {
 }
 
 fn declared() -> String {
-    let mut lines = format!("LONGEST_SHEET {LONGEST_SHEET}\n");
+    let mut lines = format!("HEADER_VERSION {VERSION}\nLONGEST_SHEET {LONGEST_SHEET}\n");
     lines += &format!("MOST_SITUATIONS {MOST_SITUATIONS}\nLONGEST_PLAN {LONGEST_PLAN}\n");
     for (number, word) in WORDS.iter().enumerate() {
         lines += &format!("{word} {number}\n");
@@ -42,6 +45,7 @@ fn declared() -> String {
         number: u8, sheet: u8, state: u8, situations: u16, states: u16, rounds: u16, length: u32);
     lines += &laid_out!("adapter_step_answer", Stepped, number: u8, state: u16);
     lines += &laid_out!("adapter_complies_answer", Compliance, number: u8, sheet: u8, state: u8, yes: u8);
+    lines += &laid_out!("adapter_sheet_answer", SheetAnswer, number: u8, sheet: u8, state: u8, length: u16);
     lines
 }
 

@@ -34,6 +34,16 @@ pub struct Compliance {
     pub yes: u8,
 }
 
+/// What converting a choosing sheet answers.
+#[repr(C)]
+#[derive(Clone, Copy, Debug, PartialEq, Eq)]
+pub struct SheetAnswer {
+    pub number: u8,
+    pub sheet: u8,
+    pub state: u8,
+    pub length: u16,
+}
+
 #[rustfmt::skip]
 extern "C" {
     pub fn adapter_connect(
@@ -50,6 +60,11 @@ extern "C" {
         client: *const u8, client_length: usize,
         service: *const u8, service_length: usize,
     ) -> Compliance;
+
+    pub fn adapter_from_choosing(
+        choosing: *const u8, choosing_length: usize,
+        sheet: *mut u8, sheet_length: usize,
+    ) -> SheetAnswer;
 }
 
 /// A slice as a pointer and a length. With `as_null`, the pointer of a slice without elements is null.

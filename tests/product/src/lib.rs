@@ -4,10 +4,10 @@
 mod foreign;
 mod table;
 
-pub use foreign::{Answer, Compliance, Stepped};
+pub use foreign::{Answer, Compliance, SheetAnswer, Stepped};
 pub use table::{Lent, Record, Table};
 
-use foreign::passed;
+use foreign::{lent, passed};
 
 /// Steps a plan. With `null`, a plan without bytes passes as a null pointer.
 pub fn step(plan: &[u8], state: u16, code: u8, null: bool) -> Stepped {
@@ -21,4 +21,11 @@ pub fn complies(client: &[u8], service: &[u8], null: bool) -> Compliance {
     let ((client, client_length), (service, service_length)) = (passed(client, null), passed(service, null));
     // Each pointer is that of a slice, passed with its length, or null with length 0.
     unsafe { foreign::adapter_complies(client, client_length, service, service_length) }
+}
+
+/// Converts a choosing sheet. With `null`, slices without bytes pass as null pointers.
+pub fn from_choosing(choosing: &[u8], sheet: &mut [u8], null: bool) -> SheetAnswer {
+    let ((choosing, choosing_length), (sheet, sheet_length)) = (passed(choosing, null), lent(sheet, null));
+    // Each pointer is that of a slice, passed with its length, or null with length 0; the two slices do not overlap.
+    unsafe { foreign::adapter_from_choosing(choosing, choosing_length, sheet, sheet_length) }
 }

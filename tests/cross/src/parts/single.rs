@@ -1,8 +1,10 @@
-//! Every single-byte change of valid sheets and of emitted plans: each byte, to each of the 255 other values.
+//! Every single-byte change of valid sheets, emitted plans and choosing sheets: each byte, to each of the 255 other
+//! values.
 
 use super::{emitted, Share};
-use crate::call::{Call, Complies, Connect, Step};
+use crate::call::{Call, Complies, Connect, FromChoosing, Step};
 use crate::chance::Chance;
+use crate::choosing;
 use crate::contract::{client_of, Shape};
 use crate::runner::{Checked, Runner};
 
@@ -32,6 +34,15 @@ pub fn plans(runner: &mut Runner, chance: &mut Chance, share: Share) -> Checked 
             let (state, code) = (chance.below(count) as u16, chance.pick(&[first, first, 0, 16, 32]));
             Call::Step(Step { plan, state, code, null: false })
         })?;
+    }
+    Ok(())
+}
+
+pub fn choosing_sheets(runner: &mut Runner, chance: &mut Chance, share: Share) -> Checked {
+    for _ in 0..share.of(100) {
+        let choosing = choosing::Shape::small(chance).choosing(chance).bytes();
+        let room = chance.pick(&[0, 20, 100]);
+        each_change(runner, &choosing, |choosing| Call::FromChoosing(FromChoosing { choosing, room, null: false }))?;
     }
     Ok(())
 }

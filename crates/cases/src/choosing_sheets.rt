@@ -1,0 +1,89 @@
+// A case is a number of lent output bytes (16 bits), and a choosing sheet. Its line: number, sheet and state, the length, and every byte
+// that the lent output holds after the call.
+ghost use mathlib.Core.Path.{_≡_};
+ghost use Prim.Native.Nat.{_<_, _≤_};
+ghost use lib.ListN.{length};
+
+// Gives the output at a place what it holds there before the call.
+fn fill_at(output: &mut [u8], place: usize)
+    requires { ⌜ place < length (now output) ⌝ }
+{
+    output[place] = 255 - (place % 256) as u8;
+}
+
+// Gives the output what it holds before the call.
+fn fill(output: &mut [u8]) {
+    let room = output.len();
+    let mut i: usize = 0;
+    while i < room {
+        fill_at(output, i);
+        i += 1;
+    }
+}
+
+// Prints a byte that others follow.
+fn print_byte(byte: u8) {
+    framing::print_figure(byte as u64);
+}
+
+// Prints the last byte of the line.
+fn print_last_byte(byte: u8) {
+    framing::print_last(byte as u64);
+}
+
+// Prints the bytes to the end of the line.
+fn print_bytes(bytes: &[u8])
+    requires { ⌜ 1 ≤ length (now bytes) ⌝ }
+{
+    let last = bytes.len() - 1;
+    let mut i: usize = 0;
+    while i < last {
+        print_byte(bytes[i]);
+        i += 1;
+    }
+    print_last_byte(bytes[last]);
+}
+
+// Prints the line of an answer, with the output behind it.
+fn print_line(answer: nodes::SheetAnswer, output: &[u8]) {
+    framing::print_figure(answer.number as u64);
+    framing::print_figure(answer.sheet as u64);
+    framing::print_figure(answer.state as u64);
+    if output.len() == 0 {
+        framing::print_last(answer.length as u64);
+        return;
+    }
+    framing::print_figure(answer.length as u64);
+    print_bytes(output);
+}
+
+// Converts a choosing sheet, and prints the line.
+fn print_case(sheet: &[u8], output: &mut [u8]) {
+    fill(output);
+    let answer = convert::convert(sheet, output);
+    print_line(answer, output);
+}
+
+// As many bytes as a case can ask for.
+fn output_before() -> [u8; 65535]
+    ensures { λ r. ⌜ 65535 ≡ length r ⌝ }
+{
+    [0; 65535]
+}
+
+// Lends so many bytes.
+fn lend(sheet: &[u8], room: usize)
+    requires { ⌜ room ≤ 65535 ⌝ }
+{
+    let mut output = output_before();
+    print_case(sheet, &mut output[..room]);
+}
+
+// Prints the line of a case.
+pub fn answer(case: &[u8]) {
+    if case.len() < 2 {
+        return;
+    }
+    let room = little_endian::word_at(case, 0) as usize;
+    lend(&case[2..], room);
+}

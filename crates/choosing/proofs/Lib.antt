@@ -1,0 +1,13 @@
+pub mod Cases
+pub mod Standing
+pub mod Parts
+pub mod Read
+pub mod Written
+pub mod Only
+pub mod Sets
+pub mod Leads
+pub mod Fault
+pub mod Rows
+pub mod Lawful
+pub mod Words
+pub mod Says

@@ -1,0 +1,11 @@
+pub mod Ranges
+pub mod Replacing
+pub mod Leads
+pub mod RowsOf
+pub mod Summing
+pub mod Ordered
+pub mod Masks
+pub mod Writing
+pub mod Meeting
+pub mod Ranking
+pub mod ReadySets

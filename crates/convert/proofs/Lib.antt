@@ -1,0 +1,4 @@
+pub mod Tables
+pub mod Visiting
+pub mod Rows
+pub mod Converting

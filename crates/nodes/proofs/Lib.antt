@@ -1,0 +1,12 @@
+pub mod Nodes
+pub mod Words
+pub mod Bytes
+pub mod Parts
+pub mod Sheets
+pub mod Made
+pub mod Refused
+pub mod Noting
+pub mod Filled
+pub mod Writing
+pub mod Tables
+pub mod Answers
