@@ -3,9 +3,9 @@
  * for C and C++.
  *
  * `rt staticlib adapter` proves the library and writes it to target/staticlib/libadapter.a, for x86-64 Linux. It needs nothing else but
- * memcpy and memset of the C library. examples/c is a program that uses it. The rules, sheets and plans are those of document 01, choosing
- * sheets those of document 02, request 1/13; the words in quotation marks below are taken from them. docs/FORMATS.md explains sheets and
- * plans byte by byte, docs/GLOSSARY.md the words.
+ * memcpy and memset of the C library. examples/c is a program that uses it. The rules, sheets and plans are those of document 01 with
+ * request 2/13 of document 02, choosing sheets those of its request 1/13; the words in quotation marks below are taken from them.
+ * docs/FORMATS.md explains sheets and plans byte by byte, docs/GLOSSARY.md the words.
  *
  * What the caller promises. The proof begins here: of a call that breaks one of these, nothing is said.
  *   - Each pointer leads to as many elements as the length behind it says, in one object, all of them initialised; any values will do. A
@@ -34,7 +34,7 @@ extern "C" {
 #endif
 
 /* Rises with every change of this header. */
-#define ADAPTER_HEADER_VERSION 2
+#define ADAPTER_HEADER_VERSION 3
 
 /*
  * The bytes of the longest sheet. A longer one is refused as ADAPTER_LENGTH. With this much lent, no choosing sheet is refused as
@@ -49,10 +49,11 @@ extern "C" {
 #define ADAPTER_LONGEST_PLAN 536584
 
 /*
- * The number of an answer: 0, or what is wrong. The comments are document 01's, "Given when", and from 17 on document 02's. 12 is proved to
- * mean that no adapter would do: no relation of definition 3.7 of Padovani 2010 holds the start with this k, and some client that complies
- * with the old contract can hang behind every adapter, a plan or not, that keeps at most k messages of each name and direction and makes
- * none up.
+ * The number of an answer: 0, or what is wrong. The comments are document 01's, "Given when", and from 17 on document 02's. In a state's row
+ * the bits of all masks are tested before the order of any (document 02, request 2/13): where both are wrong the answer is ADAPTER_ACTION.
+ * 12 is proved to mean that no adapter would do: no relation of definition 3.7 of Padovani 2010 holds the start with this k, and some client
+ * that complies with the old contract can hang behind every adapter, a plan or not, that keeps at most k messages of each name and
+ * direction and makes none up.
  */
 enum adapter_refusal {
     ADAPTER_ACCEPTED = 0,

@@ -18,7 +18,7 @@ from tests.reference.pair_cases import small_sheets
 from tests.reference.random_contracts import Shape, random_contract, resembling
 from tests.reference.framing import measured, number_bytes
 from tests.reference.sheet_random import careless_sheet, changed
-from tests.reference.sheets import SERVICE, Contract, state, write_sheet
+from tests.reference.sheets import CLIENT, SERVICE, Contract, state, write_sheet
 
 MOST_RECORDS = 4096
 LONGEST_PLAN = MOST_RECORDS * (1 + 42 * 3) + 4 * MOST_RECORDS + 8
@@ -168,14 +168,27 @@ def full_size(chance, old):
     return states
 
 
+def with_noise(row):
+    """The state with its masks falling, and bit 15 in the last of them."""
+    return row._replace(ready=(*row.ready[:0:-1], row.ready[0] | mask(15)))
+
+
+def as_client(service):
+    """The sheet in the other role: it is read whole, then refused."""
+    return service[:-2] + bytes([CLIENT]) + service[-1:]
+
+
 def full_sheets():
     chance = Chance(SEED)
-    old, new = sheet(7, full_size(chance, True)), sheet(7, full_size(chance, False))
+    old, states = sheet(7, full_size(chance, True)), full_size(chance, False)
+    new = sheet(7, states)
     yield Input("full sheets, k 0", 0, old, new)
     yield Input("full sheets, k 1, 11", 1, old, new)
     late = bytearray(new)
     late[-6 - 128 - 1] = 64
+    yield Input("full sheets, 6 in the last state", 0, old, sheet(7, [*states[:-1], with_noise(states[-1])]))
     yield Input("full sheets, 7 in the last state", 0, old, bytes(late))
+    yield Input("full sheets, 8", 0, as_client(old), new)
     yield Input("full sheets, 10", 4, old, new)
 
 

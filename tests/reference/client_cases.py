@@ -9,7 +9,7 @@ from .compliance import check_client
 from .framing import Framed, measured
 from .pair_cases import small_shape
 from .random_contracts import mirrored, random_contract, resembling
-from .sheet_random import careless_sheet, changed
+from .sheet_random import careless_sheet, changed, untidy_sheet
 from .sheets import CLIENT, SERVICE, write_sheet
 
 SEED = 20100904
@@ -66,3 +66,8 @@ def cases():
         yield framed(f"other names {i}", client, small_sheets(chance)[1])
         yield framed(f"client cut off {i}", client[: chance.below(6)], service)
         yield framed(f"service cut off {i}", client, service[: chance.below(6)])
+    for i in range(12):
+        client, service = small_sheets(chance)
+        yield framed(f"client untidy {i}", untidy_sheet(chance), service)
+        yield framed(f"service untidy {i}", client, untidy_sheet(chance))
+        yield framed(f"two untidy sheets {i}", untidy_sheet(chance), untidy_sheet(chance))

@@ -16,7 +16,7 @@ from .connecting import ZERO_RECORD, connect
 from .framing import Framed, digest, measured, number_bytes
 from .moves import Situation
 from .random_contracts import Shape, random_contract, resembling
-from .sheet_random import careless_sheet, changed
+from .sheet_random import careless_sheet, changed, untidy_sheet
 from .sheets import CLIENT, SERVICE, Contract, state, write_sheet
 
 SEED = 20100902
@@ -153,6 +153,15 @@ def decided(chance):
             yield framed(f"pair {i}, k {k}", *small_sheets(chance), k)
 
 
+def untidy(chance):
+    """Masks out of order and with forbidden bits, in either sheet and in both."""
+    for i in range(12):
+        first, second = small_sheets(chance)
+        yield framed(f"first sheet untidy {i}", untidy_sheet(chance), second, chance.below(5))
+        yield framed(f"second sheet untidy {i}", first, untidy_sheet(chance), chance.below(5))
+        yield framed(f"two untidy sheets {i}", untidy_sheet(chance), untidy_sheet(chance), chance.below(5))
+
+
 def cases():
     chance = Chance(SEED)
     yield from named_cases()
@@ -160,3 +169,4 @@ def cases():
     yield from limits(chance)
     yield from refused(chance)
     yield from decided(chance)
+    yield from untidy(chance)

@@ -23,6 +23,7 @@ from .game import (
     safe_positions,
 )
 from .moves import START, Situation, enabled
+from .noise_selfcheck import MasksWithNoise
 from .plans import Plan, read_plan, step, write_plan
 from .program import printed
 from .random_contracts import Shape, mirrored, random_contract, resembling
@@ -31,7 +32,7 @@ from .runs import At, Attempt, run
 from .sheets import CLIENT, SERVICE, Contract, Refusal, offered, read_sheet, state, write_sheet
 
 #: Checked with the rest.
-CHOOSING = ChoosingSheets, HiddenChoices, NoCircle, Reading
+OTHERS = ChoosingSheets, HiddenChoices, NoCircle, Reading, MasksWithNoise
 
 MARKED = Situation((9,) * 14, 9, 9)
 
@@ -142,10 +143,10 @@ class Sheets(unittest.TestCase):
 
     def test_order_within_a_state(self):
         # A mask that falls and has a bit too many; bits before a later order,
-        # order before later bits.
-        self.refuses("02 81 00 02 00 00 00  00 00  07 00 01 01 00 C5", 5, 0, 3)
+        # and before an earlier one.
+        self.refuses("02 81 00 02 00 00 00  00 00  07 00 01 01 00 C5", 6, 0, 3)
         self.refuses("02 03 00 01 00 00 00  00 00  07 00 01 01 00 C5", 6, 0, 1)
-        self.refuses("03 01 00 00 00 00 80  00 00  07 00 01 01 00 C5", 5, 0, 3)
+        self.refuses("03 01 00 00 00 00 80  00 00  07 00 01 01 00 C5", 6, 0, 5)
         # Masks missing before masks wrong; successors missing before wrong.
         self.refuses("03 01 00 00 00  00 00  05 00 01 01 00 C5", 4, 0, 5)
         self.refuses("01 03 00 09  00 00  04 00 01 02 00 C5", 4, 0, 4)

@@ -3,6 +3,7 @@ offset of its refusal, or 0 0 0 for a whole sheet."""
 
 from .chance import Chance
 from .sheet_edges import edges
+from .sheet_noise import masks_with_noise
 from .sheet_random import random_sheets
 from .sheets import Refusal, read_sheet
 
@@ -10,9 +11,9 @@ SEED = 20100901
 
 
 def cases():
-    """Every edge, then random sheets, no sheet twice."""
+    """Every edge, then random sheets, then masks with noise, no sheet twice."""
     seen = set()
-    for case in (*edges(), *random_sheets(Chance(SEED))):
+    for case in (*edges(), *random_sheets(Chance(SEED)), *masks_with_noise()):
         if case.data not in seen:
             seen.add(case.data)
             yield case

@@ -1,6 +1,7 @@
-"""Random sheets: whole ones, damaged ones, and ones written carelessly."""
+"""Random sheets: whole ones, damaged ones, and ones written carelessly or left
+untidy."""
 
-from .actions import MOST_NAMES
+from .actions import MOST_NAMES, allowed_mask
 from .framing import Framed, number_bytes
 from .random_contracts import Shape, random_contract
 from .sheet_edges import loose_sheet, row
@@ -91,6 +92,34 @@ def careless_sheet(chance):
     return loose_sheet(rows, n, role, gap=gap)
 
 
+def untidy_row(chance, n, role, count):
+    """A row with up to two masks put in another's place, before it or instead
+    of it, and up to two forbidden bits, these rather in later masks."""
+    wanted = allowed_mask(n, role)
+    forbidden = [bit for bit in range(16) if not wanted >> bit & 1]
+    masks = sorted({chance.number() & wanted for _ in range(chance.between(2, MOST_READY))})
+    for _ in range(chance.pick([0, 1, 2, 2])):
+        moved = chance.pick(masks)
+        if chance.one_in(2):
+            masks.remove(moved)
+            masks.insert(chance.below(len(masks) + 1), moved)
+        else:
+            masks[chance.below(len(masks))] = moved
+    for _ in range(chance.pick([0, 1, 1, 2])):
+        at = max(chance.below(len(masks)), chance.below(len(masks)))
+        masks[at] |= 1 << chance.pick(forbidden)
+    return row(masks, [chance.below(count) for _ in offered(masks)])
+
+
+def untidy_sheet(chance):
+    """A sheet with one or two untidy rows among short ones."""
+    count, n, role = chance.pick([1, 2, 3, 5, 9]), chance.between(1, MOST_NAMES), chance.pick([SERVICE, CLIENT])
+    rows = [row([0])] * count
+    for _ in range(2):
+        rows[chance.below(count)] = untidy_row(chance, n, role, count)
+    return loose_sheet(rows, n, role)
+
+
 def long_sheet(chance):
     """A sheet of 50 to 64 states."""
     return whole_sheet(chance, [50, 60, MOST_STATES], 50)
@@ -117,3 +146,4 @@ def random_sheets(chance):
     yield from many(chance, "too long", 5, too_long)
     yield from many(chance, "noise before a trailer", 100, noise_before_trailer)
     yield from many(chance, "careless", 400, careless_sheet)
+    yield from many(chance, "untidy", 120, untidy_sheet)

@@ -1,4 +1,5 @@
-"""Contracts, and sheets read and written (document 01, "Contracts as sheets").
+"""Contracts, and sheets read and written (document 01, "Contracts as sheets",
+and request 2/13 of document 02).
 
 A sheet that cannot be read gives a Refusal.  Its offset is that of the byte
 at fault in the sheet, and 0 for refusals 1 to 3:
@@ -7,7 +8,9 @@ at fault in the sheet, and 0 for refusals 1 to 3:
 - a byte missing from a row: the index's offset, where that byte would have
   had to stand at the latest;
 - a wrong count of ready sets: the count byte;
-- a mask: its first byte;
+- masks with forbidden bits: the first byte of the first of them;
+- masks out of order: the first byte of the first that is not above the one
+  before it;
 - a successor: its byte;
 - a gap: the byte directly behind the last row.
 """
@@ -116,17 +119,19 @@ def read_trailer(sheet):
 
 
 def read_masks(sheet, trailer, number, at):
-    """The ready sets of a state, the masks from offset `at` on all present."""
+    """The ready sets of a state, the masks from offset `at` on all present.
+    "The bits of all masks in a row are tested before the order of any"
+    (document 02, request 2/13)."""
     wanted = allowed_mask(trailer.n, trailer.role)
-    ready = []
-    for place in range(at, at + 2 * sheet[at - 1], 2):
-        mask = number_at(sheet, place)
-        if ready and mask <= ready[-1]:
-            raise Refused(5, number, place)
+    places = range(at, at + 2 * sheet[at - 1], 2)
+    ready = tuple(number_at(sheet, place) for place in places)
+    for place, mask in zip(places, ready):
         if mask & ~wanted:
             raise Refused(6, number, place)
-        ready.append(mask)
-    return tuple(ready)
+    for place, before, mask in zip(places[1:], ready, ready[1:]):
+        if mask <= before:
+            raise Refused(5, number, place)
+    return ready
 
 
 def read_row(sheet, trailer, number, start):

@@ -7,7 +7,7 @@ use lib.ListN.{replicate}
 use Rattle.model.specs.Lists.{any, all, keep, place, upto}
 use Rattle.model.specs.Bytes.{byte, word, dword, le16, le32}
 use Rattle.model.specs.Contract.{actions, takes, name, partner, has, nowhere, state, offersIn, offers, offeredBelow, after}
-use Rattle.model.specs.Sheet.{check, then, trailer, strayBit, masksFrom, successorsFrom, rowWith, rowAt, statesFrom, goodTrailer, readSheet, inPlace, plain, readBoth}
+use Rattle.model.specs.Sheet.{check, then, trailer, strayBit, wordsFrom, outOfOrder, masksFrom, successorsFrom, rowWith, rowAt, statesFrom, goodTrailer, readSheet, inPlace, plain, readBoth}
 use Rattle.model.specs.Situation.{start, alike, sameList, same, kindOf, codes, raised, lowered, bufferAfter, offered, oldAfter, newAfter, withBuffer, nextBy, next}
 use Rattle.model.specs.Test.{listed, covered, covers, hope, answered, test}
 use Rattle.model.specs.Search.{member, add, addAll, search, searchFrom}
@@ -18,7 +18,7 @@ use Rattle.model.specs.Cases.{Figures, Case, cases, m1-plan, take-a-2, e
 
 -- what connecting answers for two sheets, with 16 records and 128 bytes of 0xFF lent
 unfoldable pub connectCase : (k : ℕ) → (old new : List ℕ) → Connected ℕ
-unfolding any all keep place upto byte word dword le16 le32 actions takes name partner has nowhere state offersIn offers offeredBelow after check then trailer strayBit masksFrom successorsFrom rowWith rowAt statesFrom goodTrailer readSheet inPlace plain readBoth start alike sameList same kindOf codes raised lowered bufferAfter offered oldAfter newAfter withBuffer nextBy next listed covered covers hope answered test member add addAll search searchFrom onward stays within movesInto round settle settled planStates target rowOf planRows moveBytes rowBytes rowsBytes indexBytes planBytes refused counted settledOf rowsFor emitted related found connected limitOf ranked outcomeOf clears connectOf
+unfolding any all keep place upto byte word dword le16 le32 actions takes name partner has nowhere state offersIn offers offeredBelow after check then trailer strayBit wordsFrom outOfOrder masksFrom successorsFrom rowWith rowAt statesFrom goodTrailer readSheet inPlace plain readBoth start alike sameList same kindOf codes raised lowered bufferAfter offered oldAfter newAfter withBuffer nextBy next listed covered covers hope answered test member add addAll search searchFrom onward stays within movesInto round settle settled planStates target rowOf planRows moveBytes rowBytes rowsBytes indexBytes planBytes refused counted settledOf rowsFor emitted related found connected limitOf ranked outcomeOf clears connectOf
 connectCase k old new = connectOf 0 k old new (replicate 16 7) (replicate 128 0xFF)
 
 -- the figures of an answer

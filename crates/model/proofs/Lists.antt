@@ -1,7 +1,7 @@
 -- Laws of tests and of the functions on lists: what each says of the elements, by recursion on the list and by cases on the
 -- test.
 -- Assumes nothing.
-use mathlib.Core.Path.{_≡_, refl, ap, subst, subst⁻¹, _∙_}
+use mathlib.Core.Path.{_≡_, refl, sym, ap, subst, subst⁻¹, _∙_}
 use mathlib.Core.Bool.{Bool, true, false, _&&_, _||_, cond}
 use mathlib.Core.Logic.{_⊎_, inl, inr, ⊎-elim}
 use mathlib.Core.Option.{Option, none, some, Option·some-injective, Option·none-ne-some, bind}
@@ -10,8 +10,9 @@ use Prim.Native.Nat.{ℕ, zero, suc, _+_, _*_, _≤_, _<_}
 use native.Mathlib.Omega.{arith}
 use native.Mathlib.Nat.{suc-mul, zero-mul}
 use lib.ListN.{length, getD, length-append, length-map}
-use lib.Dec.{T}
-use Rattle.model.specs.Lists.{any, all, keep, combine, through}
+use lib.Dec.{T, ltb, leb·suc-suc}
+use borrow.Author.Tests.{lt-ltb}
+use Rattle.model.specs.Lists.{any, all, keep, place, combine, through}
 
 -- ---- tests
 
@@ -38,6 +39,13 @@ and-of false b s t = absurd s
 pub is-true : (b : Bool) → T b → b ≡ true
 is-true true t = refl
 is-true false t = absurd t
+
+-- two tests with one answer
+pub test-alike : (a b : Bool) → (T a → T b) → (T b → T a) → a ≡ b
+test-alike true true f g = refl
+test-alike true false f g = absurd (f tt)
+test-alike false true f g = absurd (g tt)
+test-alike false false f g = refl
 
 pub dec-T : (b : Bool) → T b ⊎ (T b → ⊥)
 dec-T true = inl tt
@@ -240,6 +248,30 @@ module _ {A B C : Type 0} (f : A → B → C) where
         combine-length xs ys,
         suc-mul (length xs) (length ys),
       )
+
+-- ---- `place`
+
+module _ {A : Type 0} (p : A → Bool) where
+  -- an element passes exactly if there is a first place
+  pub any-place : (l : List A) → any p l ≡ ltb (place p l) (length l)
+  unfolding any place
+  any-place [] = refl
+  any-place (x ∷ l) = go (p x) (any-place l)
+    where
+      go : (b : Bool) → any p l ≡ ltb (place p l) (length l) → b || any p l ≡ ltb (cond b zero (suc (place p l))) (suc (length l))
+      go true e = sym (lt-ltb zero (suc (length l)) (omega arith))
+      go false e = e ∙ sym (leb·suc-suc (suc (place p l)) (length l))
+
+  -- where there is none, no element passes
+  pub none-passes : (l : List A) → length l ≤ place p l → (x : A) → List·Memᴰ x l → p x ≡ false
+  unfolding place
+  none-passes [] h x m = absurd (List·Memᴰ·not-nil m)
+  none-passes (y ∷ l) h x m = go (p y) refl h (λ c. none-passes l c x)
+    where
+      go : (passes : Bool) → p y ≡ passes → suc (length l) ≤ cond passes zero (suc (place p l))
+          → (length l ≤ place p l → List·Memᴰ x l → p x ≡ false) → p x ≡ false
+      go true e c rest = absurd (omega arith)
+      go false e c rest = ⊎-elim (λ same. ap p same ∙ e) (rest (omega arith)) (List·Memᴰ·cases-cons m)
 
 -- ---- `through`
 

@@ -1,17 +1,17 @@
 -- The numbers of refusals: a sheet is refused as 1 to 7, two sheets as 1 to 9. Each test gives its own number, so each
 -- reading is refused only as its tests and those it goes on with are.
 -- Assumes nothing.
-use mathlib.Core.Path.{_≡_, subst}
-use mathlib.Core.Bool.{Bool, true, false, not, _&&_}
+use mathlib.Core.Path.{_≡_, refl, subst}
+use mathlib.Core.Bool.{Bool, true, false, _&&_}
 use mathlib.Core.List.{List}
-use Prim.Native.Nat.{ℕ, zero, suc, _+_, _-_, _*_, _≤_}
+use Prim.Native.Nat.{ℕ, zero, suc, _+_, _*_, _≤_}
 use native.Mathlib.Omega.{arith}
 use lib.ListN.{length}
 use lib.Dec.{eqb, ltb, leb}
-use Rattle.model.specs.Lists.{keep}
+use Rattle.model.specs.Lists.{keep, place}
 use Rattle.model.specs.Bytes.{byte, word}
 use Rattle.model.specs.Contract.{actions, offersIn}
-use Rattle.model.specs.Sheet.{Reading, good, refusal, check, then, Fault, Trailer, trailer, strayBit, masksFrom, successorsFrom, rowWith, rowAt, statesFrom, Sheet, goodTrailer, readSheet, Refusal, inPlace, plain, readBoth}
+use Rattle.model.specs.Sheet.{Reading, good, refusal, check, then, Fault, Trailer, trailer, strayBit, outOfOrder, wordsFrom, masksFrom, successorsFrom, rowWith, rowAt, statesFrom, Sheet, goodTrailer, readSheet, Refusal, inPlace, plain, readBoth}
 
 -- a reading is refused only as P allows
 abbrev pub OnlyRefused : {E A : Type 0} → (E → Type 0) → Reading E A → Type 0
@@ -32,6 +32,10 @@ module _ {E : Type 0} (P : E → Type 0) where
   pub only-elim : {A : Type 0} (r : Reading E A) (e : E) → OnlyRefused P r → r ≡ refusal e → P e
   only-elim r e o q = subst (OnlyRefused P) q o
 
+only-weaker : {E A : Type 0} (P Q : E → Type 0) → ((e : E) → P e → Q e) → (r : Reading E A) → OnlyRefused P r → OnlyRefused Q r
+only-weaker P Q h (good a) o = tt
+only-weaker P Q h (refusal e) o = h e o
+
 -- a number from 1 to a last one
 abbrev pub InTable : ℕ → ℕ → Type 0
 InTable last number = (1 ≤ number) × (number ≤ last)
@@ -39,41 +43,45 @@ InTable last number = (1 ≤ number) × (number ≤ last)
 abbrev OfSheet : Fault → Type 0
 OfSheet f = InTable 7 (f .number)
 
-module _ (b : List ℕ) (t : Trailer) where
-  only-masks : (q left low i : ℕ) → OnlyRefused OfSheet (masksFrom b t q left low i)
-  unfolding masksFrom
-  only-masks q zero low i = tt
-  only-masks q (suc left) low i =
-      only-check OfSheet (leb low (word b i)) _ _ (omega arith, omega arith)
-      (only-check OfSheet (not (strayBit (t .n) (t .role) (word b i))) _ _ (omega arith, omega arith)
-      (only-then OfSheet (masksFrom b t q left (suc (word b i)) (i + 2)) _ (only-masks q left (suc (word b i)) (i + 2)) (λ masks. tt)))
+-- a refusal for a state
+abbrev pub OfState : ℕ → Fault → Type 0
+OfState q f = OfSheet f × (f .state ≡ q)
 
-  only-successors : (q left i : ℕ) → OnlyRefused OfSheet (successorsFrom b t q left i)
+module _ (b : List ℕ) (t : Trailer) where
+  only-masks : (q count least i : ℕ) → OnlyRefused (OfState q) (masksFrom b t q count least i)
+  unfolding masksFrom
+  only-masks q count least i =
+      let stray = place (strayBit (t .n) (t .role)) (wordsFrom b count i) in
+      only-check (OfState q) (leb count stray) _ _ ((omega arith, omega arith), refl)
+      (only-check (OfState q) (leb count (outOfOrder least (wordsFrom b count i))) _ _ ((omega arith, omega arith), refl) tt)
+
+  only-successors : (q left i : ℕ) → OnlyRefused (OfState q) (successorsFrom b t q left i)
   unfolding successorsFrom
   only-successors q zero i = tt
   only-successors q (suc left) i =
-      only-check OfSheet (ltb (byte b i) (t .count)) _ _ (omega arith, omega arith)
-      (only-then OfSheet (successorsFrom b t q left (i + 1)) _ (only-successors q left (i + 1)) (λ successors. tt))
+      only-check (OfState q) (ltb (byte b i) (t .count)) _ _ ((omega arith, omega arith), refl)
+      (only-then (OfState q) (successorsFrom b t q left (i + 1)) _ (only-successors q left (i + 1)) (λ successors. tt))
 
-  only-row : (q i : ℕ) → OnlyRefused OfSheet (rowAt b t q i)
+  -- a row is refused for its state
+  pub only-row : (q i : ℕ) → OnlyRefused (OfState q) (rowAt b t q i)
   unfolding rowAt rowWith
   only-row q i =
-      only-check OfSheet (ltb i (t .index)) _ _ (omega arith, omega arith)
-      (only-check OfSheet (leb 1 (byte b i) && leb (byte b i) 8) _ _ (omega arith, omega arith)
-      (only-check OfSheet (leb (i + 1 + 2 * byte b i) (t .index)) _ _ (omega arith, omega arith)
-      (only-then OfSheet (masksFrom b t q (byte b i) 0 (i + 1)) _ (only-masks q (byte b i) 0 (i + 1))
+      only-check (OfState q) (ltb i (t .index)) _ _ ((omega arith, omega arith), refl)
+      (only-check (OfState q) (leb 1 (byte b i) && leb (byte b i) 8) _ _ ((omega arith, omega arith), refl)
+      (only-check (OfState q) (leb (i + 1 + 2 * byte b i) (t .index)) _ _ ((omega arith, omega arith), refl)
+      (only-then (OfState q) (masksFrom b t q (byte b i) 0 (i + 1)) _ (only-masks q (byte b i) 0 (i + 1))
       (λ masks.
       let offered = length (keep (offersIn masks) actions) in
       let place = i + 1 + 2 * byte b i in
-      only-check OfSheet (leb (place + offered) (t .index)) _ _ (omega arith, omega arith)
-      (only-then OfSheet (successorsFrom b t q offered place) _ (only-successors q offered place) (λ successors. tt))))))
+      only-check (OfState q) (leb (place + offered) (t .index)) _ _ ((omega arith, omega arith), refl)
+      (only-then (OfState q) (successorsFrom b t q offered place) _ (only-successors q offered place) (λ successors. tt))))))
 
   only-states : (left q i : ℕ) → OnlyRefused OfSheet (statesFrom b t left q i)
   unfolding statesFrom
   only-states zero q i = only-check OfSheet (eqb i (t .index)) _ _ (omega arith, omega arith) tt
   only-states (suc left) q i =
       only-check OfSheet (eqb (word b (t .index + 2 * q)) i) _ _ (omega arith, omega arith)
-      (only-then OfSheet (rowAt b t q i) _ (only-row q i)
+      (only-then OfSheet (rowAt b t q i) _ (only-weaker (OfState q) OfSheet (λ f o. o .0) (rowAt b t q i) (only-row q i))
       (λ row. only-then OfSheet (statesFrom b t left (suc q) (row .behind)) _ (only-states left (suc q) (row .behind)) (λ states. tt)))
 
 -- a sheet is refused as 1 to 7

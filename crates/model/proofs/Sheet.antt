@@ -8,12 +8,13 @@ use Prim.Native.Nat.{ℕ, zero, suc, _+_, _*_, _≤_, _<_}
 use native.Mathlib.Omega.{arith}
 use lib.ListN.{length, getD}
 use lib.Dec.{T, eqb, ltb, leb, T-not, not-T, eqb→eq, ltb→lt, leb→le, nleb→lt}
-use Rattle.model.specs.Lists.{any, keep}
-use Rattle.model.specs.Bytes.{byte, word}
+use Rattle.model.specs.Lists.{any, keep, place}
+use Rattle.model.specs.Bytes.{byte}
 use Rattle.model.specs.Contract.{Contract, State, actions, has, name, state, nowhere, offers, offersIn, offeredBelow, after}
-use Rattle.model.specs.Sheet.{Reading, good, refusal, check, then, Fault, Trailer, trailer, strayBit, masksFrom, successorsFrom, Row, rowWith, rowAt, statesFrom, Sheet, goodTrailer, readSheet, inPlace, Both, readBoth, sheetOf, contractIn}
-use Rattle.model.proofs.Lists.{and-both, and-of, or-left, any-intro, any-elim, keep-grows-strictly, getD-mem}
+use Rattle.model.specs.Sheet.{Reading, good, refusal, check, then, Fault, Trailer, trailer, strayBit, wordsFrom, masksFrom, successorsFrom, Row, rowWith, rowAt, statesFrom, Sheet, goodTrailer, readSheet, inPlace, Both, readBoth, sheetOf, contractIn}
+use Rattle.model.proofs.Lists.{and-both, and-of, or-left, any-intro, any-elim, keep-grows-strictly, getD-mem, none-passes}
 use Rattle.model.proofs.Actions.{action}
+use Rattle.model.proofs.RowMasks.{length-words}
 
 -- ---- readings
 
@@ -23,6 +24,9 @@ never-good p = let z : _≡_ {A = ℕ} 0 1 = cc in omega arith
 
 pub good-injective : {E A : Type 0} {a a′ : A} → _≡_ {A = Reading E A} (good a) (good a′) → a ≡ a′
 good-injective p = cc
+
+pub refusal-injective : {E A : Type 0} {e e′ : E} → _≡_ {A = Reading E A} (refusal e) (refusal e′) → e ≡ e′
+refusal-injective p = cc
 
 -- a test on the way to a result was passed
 pub check-good : {E A : Type 0} (ok : Bool) (e : E) (r : Reading E A) {a : A} → check ok e r ≡ good a → T ok × (r ≡ good a)
@@ -35,6 +39,18 @@ pub then-good : {E A B : Type 0} (r : Reading E A) (f : A → Reading E B) {b : 
 unfolding then
 then-good (good a) f p = (a, refl, p)
 then-good (refusal e) f p = absurd (never-good p)
+
+-- a refusal goes through
+pub then-refused : {E A B : Type 0} {r : Reading E A} {e : E} (f : A → Reading E B) → r ≡ refusal e → then r f ≡ refusal e
+unfolding then
+then-refused f h = rw h refl
+
+-- where the step behind has a result, the step before was refused
+pub refused-inside : {E A B : Type 0} (r : Reading E A) (f : A → Reading E B) {e : E} → ((a : A) → f a ≡ refusal e → ⊥)
+    → then r f ≡ refusal e → r ≡ refusal e
+unfolding then
+refused-inside (good a) f h p = absurd (h a p)
+refused-inside (refusal d) f h p = ap refusal (refusal-injective p)
 
 -- ---- lists that are read
 
@@ -83,15 +99,20 @@ mask-named n role mask j h clean o =
     (or-left (any nameless actions) (has mask 15) (any-intro nameless (action j h) (and-of (has mask j) (leb n (name j)) o u))))))
 
 module _ (b : List ℕ) (t : Trailer) where
-  masks-good : (q left low i : ℕ) {masks : List ℕ} → masksFrom b t q left low i ≡ good masks
-      → Each (λ mask. T (not (strayBit (t .n) (t .role) mask))) left masks
+  masks-good : (q count least i : ℕ) {masks : List ℕ} → masksFrom b t q count least i ≡ good masks
+      → Each (λ mask. T (not (strayBit (t .n) (t .role) mask))) count masks
   unfolding masksFrom
-  masks-good q zero low i p = each-none _ (good-injective p)
-  masks-good q (suc left) low i p =
-      let ordered = check-good _ _ _ p in
-      let clean = check-good _ _ _ (ordered .1) in
-      let rest = then-good _ _ (clean .1) in
-      each-one-more _ (clean .0) (masks-good q left (suc (word b i)) (i + 2) (rest .1)) (good-injective (rest .2))
+  masks-good q count least i p =
+      let masks = wordsFrom b count i in
+      let stray = strayBit (t .n) (t .role) in
+      let clean = check-good _ _ _ p in
+      let size = length-words b count i in
+      subst (Each (λ mask. T (not (stray mask))) count) (good-injective (check-good _ _ _ (clean .1) .1))
+      (record {
+        size = size;
+        holds = λ mask m. subst⁻¹ (λ (v : Bool). T (not v))
+            (none-passes stray masks (omega (arith, size, leb→le count (place stray masks) (clean .0))) mask m) tt;
+      })
 
   successors-good : (q left i : ℕ) {successors : List ℕ} → successorsFrom b t q left i ≡ good successors
       → Each (λ next. next < t .count) left successors

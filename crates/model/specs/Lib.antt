@@ -13,5 +13,7 @@ pub mod Run
 pub mod History
 pub mod Weak
 pub mod Demands
+pub mod Amended
+pub mod AmendedCases
 pub mod Cases
 pub mod RunCases

@@ -1,12 +1,12 @@
 -- Sheets: what bytes say of a contract, or why they are refused. Document 01, "Contracts as sheets" and
 -- "Refusals and their order".
 -- Assumes nothing.
-use mathlib.Core.Bool.{Bool, true, false, not, _&&_, _||_}
+use mathlib.Core.Bool.{Bool, true, false, _&&_, _||_, cond}
 use mathlib.Core.List.{List, [], _∷_}
 use Prim.Native.Nat.{ℕ, zero, suc, _+_, _-_, _*_}
 use lib.ListN.{length}
 use lib.Dec.{eqb, ltb, leb}
-use Rattle.model.specs.Lists.{any, keep}
+use Rattle.model.specs.Lists.{any, keep, place}
 use Rattle.model.specs.Bytes.{byte, word}
 use Rattle.model.specs.Contract.{Contract, State, actions, has, name, offersIn}
 
@@ -57,21 +57,34 @@ unfoldable pub strayBit : ℕ → ℕ → ℕ → Bool
 strayBit n role mask =
     any (λ j. has mask j && leb n (name j)) actions || has mask 15 || (has mask 14 && eqb role 0)
 
+-- `count` 16-bit numbers as they stand from i on: masks
+unfoldable pub wordsFrom : List ℕ → (count i : ℕ) → List ℕ
+wordsFrom b zero i = []
+wordsFrom b (suc count) i = word b i ∷ wordsFrom b count (i + 2)
+
+-- 5: "masks not strictly ascending". The first mask that is not above the one before it, counted from 0, or how many masks
+-- there are if they ascend. `least` is the least number above the mask before, at first 0.
+unfoldable pub outOfOrder : (least : ℕ) → List ℕ → ℕ
+outOfOrder least [] = zero
+outOfOrder least (mask ∷ masks) = cond (leb least mask) (suc (outOfOrder (suc mask) masks)) zero
+
 -- a row: its state, and where the next row begins
 pub record Row : Type 0 where
   pub state : State
   pub behind : ℕ
 
 module _ (b : List ℕ) (t : Trailer) where
-  -- `left` masks from i on, those of state q; "mask by mask, ascending (5) before bits (6)".
-  -- `low` is the least number above the mask before, at first 0.
-  unfoldable pub masksFrom : (q left low i : ℕ) → Reading Fault (List ℕ)
-  masksFrom q zero low i = good []
-  masksFrom q (suc left) low i =
-      let mask = word b i in
-      check (leb low mask) (record { number = 5; state = q; offset = i })
-      (check (not (strayBit (t .n) (t .role) mask)) (record { number = 6; state = q; offset = i })
-      (then (masksFrom q left (suc mask) (i + 2)) (λ masks. good (mask ∷ masks))))
+  -- the masks of state q, `count` of them from i on; request 2/13 of document 02: "the bits of all masks in a row are
+  -- tested" (6) "before the order of any" (5). Either fault names the first mask that has it. `least` is that of
+  -- `outOfOrder`, for a row 0.
+  unfoldable pub masksFrom : (q count least i : ℕ) → Reading Fault (List ℕ)
+  masksFrom q count least i =
+      let masks = wordsFrom b count i in
+      let stray = place (strayBit (t .n) (t .role)) masks in
+      let low = outOfOrder least masks in
+      check (leb count stray) (record { number = 6; state = q; offset = i + 2 * stray })
+      (check (leb count low) (record { number = 5; state = q; offset = i + 2 * low })
+      (good masks))
 
   -- `left` successors from i on, those of state q; "each in range (7)"
   unfoldable pub successorsFrom : (q left i : ℕ) → Reading Fault (List ℕ)
@@ -106,6 +119,10 @@ module _ (b : List ℕ) (t : Trailer) where
       check (eqb (word b (t .index + 2 * q)) i) (record { number = 4; state = q; offset = t .index + 2 * q })
       (then (rowAt q i)
       (λ row. then (statesFrom left (suc q) (row .behind)) (λ states. good (row .state ∷ states))))
+
+-- "an index with a 16-bit offset per state": where the row of state q begins
+unfoldable pub rowStart : List ℕ → ℕ → ℕ
+rowStart b q = word b (trailer b .index + 2 * q)
 
 -- what a sheet's bytes say: a contract and a role
 pub record Sheet : Type 0 where

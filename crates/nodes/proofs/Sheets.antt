@@ -1,7 +1,7 @@
 -- A sheet reads back as it was written: masks, successors, rows and all states, each where its bytes stand, in the order in which they
 -- are read.
 -- Assumes nothing.
-use mathlib.Core.Path.{_≡_, refl, sym}
+use mathlib.Core.Path.{_≡_, refl, sym, _∙_}
 use mathlib.Core.Bool.{false}
 use mathlib.Core.List.{List, [], _∷_, _++_, List·Memᴰ, List·Memᴰ·head, List·Memᴰ·tail}
 use Prim.Native.Nat.{ℕ, suc, _+_, _*_, _≤_, _<_}
@@ -14,6 +14,7 @@ use Rattle.model.specs.Contract.{State, actions, offersIn}
 use Rattle.model.specs.Sheet.{good, check, then, Trailer, strayBit, goodTrailer, readSheet}
 use Rattle.model.specs.Sheet.{masksFrom, successorsFrom, rowWith, rowAt, statesFrom}
 use Rattle.model.proofs.Lists.{keep-length}
+use Rattle.model.proofs.RowMasks.{masks-end, masks-more}
 use Rattle.nodes.specs.Nodes.{Ascending}
 use Rattle.nodes.specs.SheetBytes.{layoutRows, layoutIndex, layout, maskBytes, stateRowBytes, sheetBytes, Writable}
 use Rattle.nodes.proofs.Bytes.{At, at-left, at-right, at-head, at-tail, at-cast, at-word, length-16}
@@ -44,15 +45,15 @@ module _ (b : List ℕ) (t : Trailer) where
   back-masks : (q low i : ℕ) (masks : List ℕ) → At b i (maskBytes masks) → Ascending low masks
       → ((m : ℕ) → List·Memᴰ m masks → strayBit (t .n) (t .role) m ≡ false) → ((m : ℕ) → List·Memᴰ m masks → m < 65536)
       → masksFrom b t q (length masks) low i ≡ good masks
-  unfolding masksFrom maskBytes check then
-  back-masks q low i [] h up clean small = refl
+  unfolding maskBytes then
+  back-masks q low i [] h up clean small = masks-end b t q low i
   back-masks q low i (m ∷ masks) h up clean small =
       let w : word b i ≡ m = at-word b i m (at-left b i (le16 m) (maskBytes masks) h) (small m (List·Memᴰ·head refl)) in
       let r : masksFrom b t q (length masks) (suc m) (i + 2) ≡ good masks =
       back-masks q (suc m) (i + 2) masks
       (at-cast b (i + length (le16 m)) (i + 2) (maskBytes masks) (omega (arith, length-16 m)) (at-right b i (le16 m) (maskBytes masks) h))
       (up .1) (λ x y. clean x (List·Memᴰ·tail y)) (λ x y. small x (List·Memᴰ·tail y)) in
-      rw (w, le-leb low m (up .0), clean m (List·Memᴰ·head refl), r) refl
+      masks-more b t q low i (length masks) (rw w (clean m (List·Memᴰ·head refl))) (omega (arith, up .0)) ∙ rw (w, r) refl
 
   -- successors from i on
   back-successors : (q i : ℕ) (l : List ℕ) → At b i l → ((x : ℕ) → List·Memᴰ x l → x < t .count)

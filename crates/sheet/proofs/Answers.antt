@@ -1,13 +1,11 @@
 -- Answers and the readings that they are for: an answer says whether a reading is good, and a reading that only goes on
 -- to a result has the answer of what it goes on from. By cases on the reading. Assumes nothing.
 use mathlib.Core.Path.{_≡_, refl}
-use mathlib.Core.List.{List, _∷_}
+use mathlib.Core.List.{List}
 use Prim.Native.Nat.{ℕ}
 use native.Mathlib.Omega.{arith}
-use lib.Bits.{bitOr}
 use Rattle.model.specs.Sheet.{Reading, Fault, good, refusal, then, readSheet}
-use Rattle.sheet.specs.Union.{unionFrom}
-use Rattle.sheet.specs.Answers.{findingOf, unionIn}
+use Rattle.sheet.specs.Answers.{findingOf}
 use Rattle.sheet.specs.Whole.{IsSheet}
 use Rattle.sheet.specs.declared.Finding.the-variants as F
 
@@ -15,12 +13,6 @@ pub finding-then : {A B : Type 0} (f : A → B) (r : Reading Fault A) → findin
 unfolding findingOf then
 finding-then f (good a) = refl
 finding-then f (refusal e) = refl
-
-pub union-then : (union mask : ℕ) (r : Reading Fault (List ℕ))
-    → unionIn union (then r (λ masks. good (mask ∷ masks))) ≡ unionIn (bitOr union mask) r
-unfolding unionIn unionFrom then
-union-then union mask (good masks) = refl
-union-then union mask (refusal f) = refl
 
 finding-whole : {A : Type 0} (r : Reading Fault A) → findingOf r ≡ F.Whole → (a : A) × (r ≡ good a)
 unfolding findingOf

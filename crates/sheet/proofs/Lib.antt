@@ -1,6 +1,8 @@
 pub mod Union
 pub mod Ones
 pub mod Stray
+pub mod StrayUnion
+pub mod Scan
 pub mod Reading
 pub mod Rows
 pub mod Whole

@@ -5,20 +5,23 @@ use mathlib.Core.Bool.{Bool, true, false, cond}
 use mathlib.Core.List.{List, [], _∷_}
 use Prim.Native.Nat.{ℕ, zero, suc, _+_, _-_, _*_, _<_, _≤_}
 use native.Mathlib.Omega.{arith}
-use native.Mathlib.Numerals.{add-one, sub-one}
-use lib.Dec.{leb}
-use lib.Bits.{bitOr, or-zero-l}
+use native.Mathlib.Numerals.{sub-one}
+use lib.Dec.{ltb, leb}
+use lib.Bits.{or-zero-l}
 use lib.ListN.{length}
-use borrow.Author.Tests.{lt-ltb, le-ltb, le-leb, lt-leb}
-use Rattle.model.specs.Lists.{keep}
-use Rattle.model.specs.Bytes.{byte, word}
+use borrow.Author.Tests.{lt-ltb, le-ltb, le-leb, lt-leb, ltb-true, ltb-false}
+use Rattle.model.specs.Lists.{keep, place}
+use Rattle.model.specs.Bytes.{byte}
 use Rattle.model.specs.Contract.{actions, offersIn}
 use Rattle.model.specs.Sheet as model
-use Rattle.model.specs.Sheet.{Reading, Fault, Trailer, good, refusal, check, then, strayBit, masksFrom, successorsFrom, rowWith, rowAt}
+use Rattle.model.specs.Sheet.{Reading, Fault, Trailer, good, refusal, check, then, strayBit, outOfOrder, wordsFrom, masksFrom, rowWith}
+use Rattle.model.specs.Sheet.{successorsFrom, rowAt}
+use Rattle.model.proofs.RowMasks.{length-words}
 use Rattle.sheet.specs.Union.{unionFrom, unionOf, onesBelow}
 use Rattle.sheet.specs.Answers.{findingOf, unionIn, behindIn}
 use Rattle.sheet.proofs.Ones.{ones-offered}
-use Rattle.sheet.proofs.Answers.{finding-then, union-then}
+use Rattle.sheet.proofs.StrayUnion.{stray-union}
+use Rattle.sheet.proofs.Answers.{finding-then}
 use Rattle.sheet.proofs.Rows.{row-reading}
 use Rattle.sheet.specs.declared.Finding.{Finding}
 use Rattle.sheet.specs.declared.Finding.the-variants as F
@@ -34,32 +37,35 @@ behindOf i (F.Fault number state offset) = R.Fault number state offset
 
 module _ (b : List ℕ) (t : Trailer) (q : ℕ) where
   -- ---- masks
-  pub masks-none : (left low i union : ℕ) → left ≤ 0 → unionIn union (masksFrom b t q left low i) ≡ M.Union union
-  unfolding masksFrom unionIn unionFrom
-  masks-none zero low i union h = refl
-  masks-none (suc left) low i union h = absurd (omega arith)
 
-  module _ (low i union mask : ℕ) (w : mask ≡ word b i) where
-    pub masks-low : (left : ℕ) → 0 < left → mask < low → unionIn union (masksFrom b t q left low i) ≡ M.Fault 5 q i
-    unfolding masksFrom unionIn check
-    masks-low zero h l = absurd (omega arith)
-    masks-low (suc left) h l = simp (lt-leb low (word b i) (rw w at l))
+  -- the first of the masks from i on that has a stray bit
+  abbrev firstStray : (count i : ℕ) → ℕ
+  firstStray count i = place (strayBit (t .n) (t .role)) (wordsFrom b count i)
 
-    pub masks-stray : (left : ℕ) → 0 < left → low ≤ mask → strayBit (t .n) (t .role) mask ≡ true
-        → unionIn union (masksFrom b t q left low i) ≡ M.Fault 6 q i
-    unfolding masksFrom unionIn check
-    masks-stray zero h l s = absurd (omega arith)
-    masks-stray (suc left) h l s = simp (le-leb low (word b i) (rw w at l), rw w at s)
+  module _ (count i union : ℕ) (u : union ≡ unionOf (wordsFrom b count i)) where
+    -- the union tells whether the first mask with a stray bit is one of the masks
+    noisy : strayBit (t .n) (t .role) union ≡ ltb (firstStray count i) count
+    noisy =
+        ap (strayBit (t .n) (t .role)) u ∙ stray-union (t .n) (t .role) (wordsFrom b count i)
+        ∙ ap (ltb (firstStray count i)) (length-words b count i)
 
-    pub masks-more : (left : ℕ) → 0 < left → low ≤ mask → strayBit (t .n) (t .role) mask ≡ false
-        → unionIn union (masksFrom b t q left low i)
-        ≡ unionIn (bitOr union mask) (masksFrom b t q (left - 1) (mask + 1) (i + 2))
-    unfolding masksFrom check
-    masks-more zero h l s = absurd (omega arith)
-    masks-more (suc left) h l s =
-        rw (w, add-one (word b i), sub-one (suc left))
-        (simp (le-leb low (word b i) (rw w at l), rw w at s)
-        (union-then union (word b i) (masksFrom b t q left (suc (word b i)) (i + 2))))
+    pub masks-noisy : strayBit (t .n) (t .role) union ≡ true → (stray : ℕ) → stray ≡ firstStray count i
+        → M.Fault 6 q (i + 2 * stray) ≡ unionIn (masksFrom b t q count 0 i)
+    unfolding masksFrom check unionIn
+    masks-noisy s stray e = rw (e, lt-leb count (firstStray count i) (ltb-true _ _ (sym noisy ∙ s))) refl
+
+    module _ (clean : strayBit (t .n) (t .role) union ≡ false) (low : ℕ) (e : low ≡ outOfOrder 0 (wordsFrom b count i)) where
+      -- no mask has a stray bit, so their order decides
+      ordered : leb count (firstStray count i) ≡ true
+      ordered = le-leb count _ (ltb-false _ _ (sym noisy ∙ clean))
+
+      pub masks-low : low < count → M.Fault 5 q (i + 2 * low) ≡ unionIn (masksFrom b t q count 0 i)
+      unfolding masksFrom check unionIn
+      masks-low h = rw (ordered, ← e, lt-leb count low h) refl
+
+      pub masks-whole : count ≤ low → M.Union union ≡ unionIn (masksFrom b t q count 0 i)
+      unfolding masksFrom check unionIn
+      masks-whole h = rw (ordered, ← e, le-leb count low h, u) refl
 
   -- ---- successors
   pub successors-none : (left i : ℕ) → left ≤ 0 → findingOf (successorsFrom b t q left i) ≡ F.Whole
@@ -145,7 +151,7 @@ module _ (b : List ℕ) (t : Trailer) (q : ℕ) where
   rowMasks i (M.Union union) = behindIn (rowWith b t q i (union ∷ []))
   rowMasks i (M.Fault number state offset) = R.Fault number state offset
 
-  masks-then : (i : ℕ) (r : Reading Fault (List ℕ)) → behindIn (then r (rowWith b t q i)) ≡ rowMasks i (unionIn 0 r)
+  masks-then : (i : ℕ) (r : Reading Fault (List ℕ)) → behindIn (then r (rowWith b t q i)) ≡ rowMasks i (unionIn r)
   unfolding then unionIn unionOf rowMasks behindIn
   masks-then i (good masks) = behind-masks masks i ∙ sym (behind-union i (unionOf masks))
   masks-then i (refusal f) = refl
@@ -173,7 +179,7 @@ module _ (b : List ℕ) (t : Trailer) (q : ℕ) where
         row-cut c =
             simp (lt-ltb i (t .index) h, le-leb 1 (byte b i) l, le-leb (byte b i) 8 m, lt-leb behind (t .index) c)
 
-        module _ (c : behind ≤ t .index) (r : Masks) (e : r ≡ unionIn 0 (masksFrom b t q (byte b i) 0 (i + 1))) where
+        module _ (c : behind ≤ t .index) (r : Masks) (e : r ≡ unionIn (masksFrom b t q (byte b i) 0 (i + 1))) where
           row-masks : rowMasks behind r ≡ behindIn (rowAt b t q i)
           unfolding rowAt check
           row-masks =

@@ -7,11 +7,13 @@ use Prim.Native.Nat.{ℕ, zero, suc, _+_, _*_, _<_, _≤_}
 use native.Mathlib.Omega.{arith}
 use lib.Dec.{leb}
 use lib.ListN.{length, getD}
-use borrow.Author.Tests.{ltb-true, leb-true, eqb-true, not-true}
-use Rattle.model.specs.Lists.{keep}
+use borrow.Author.Tests.{ltb-true, leb-true, eqb-true}
+use Rattle.model.specs.Lists.{keep, place}
 use Rattle.model.specs.Bytes.{byte, word}
 use Rattle.model.specs.Contract.{State, nowhere, actions, offersIn}
-use Rattle.model.specs.Sheet.{good, Trailer, Row, strayBit, masksFrom, successorsFrom, rowWith, rowAt, statesFrom}
+use Rattle.model.specs.Sheet.{good, Trailer, Row, strayBit, wordsFrom, masksFrom, successorsFrom, rowWith, rowAt, statesFrom}
+use Rattle.model.proofs.Lists.{getD-mem, none-passes}
+use Rattle.model.proofs.RowMasks.{length-words, words-place}
 use Rattle.model.proofs.Sheet.{good-injective, then-good}
 use Rattle.sheet.proofs.Reading.{check-true, both-true}
 
@@ -46,29 +48,21 @@ pub record StatesStand (b : List ℕ) (t : Trailer) (q count : ℕ) (states : Li
   pub each : (k : ℕ) → k < count → RowStands b t (word b (t .index + 2 * (q + k))) (getD states k nowhere)
 
 module _ (b : List ℕ) (t : Trailer) where
-  masks-cons : (i left : ℕ) (masks : List ℕ) → strayBit (t .n) (t .role) (word b i) ≡ false
-      → MasksStand b t (i + 2) left masks → MasksStand b t i (suc left) (word b i ∷ masks)
-  masks-cons i left masks c m = record { size = ap suc (m .size); each = each; clean = clean } where
-    each : (k : ℕ) → k < suc left → word b (i + 2 * k) ≡ getD (word b i ∷ masks) k 0
-    each zero h = ap (word b) (omega arith)
-    each (suc k) h = ap (word b) (omega arith) ∙ m .each k (omega arith)
-
-    clean : (k : ℕ) → k < suc left → strayBit (t .n) (t .role) (getD (word b i ∷ masks) k 0) ≡ false
-    clean zero h = c
-    clean (suc k) h = m .clean k (omega arith)
-
-  masks-stand : (q left low i : ℕ) (masks : List ℕ) → masksFrom b t q left low i ≡ good masks
-      → MasksStand b t i left masks
+  masks-stand : (q count least i : ℕ) (masks : List ℕ) → masksFrom b t q count least i ≡ good masks
+      → MasksStand b t i count masks
   unfolding masksFrom
-  masks-stand q zero low i masks h =
-      subst (MasksStand b t i zero) (good-injective h)
-      (record { size = refl; each = λ k l. absurd (omega arith); clean = λ k l. absurd (omega arith) })
-  masks-stand q (suc left) low i masks h =
-      let ascending = check-true _ _ _ h in
-      let clean = check-true _ _ _ (ascending .1) in
-      let rest = then-good _ _ (clean .1) in
-      subst (MasksStand b t i (suc left)) (good-injective (rest .2))
-      (masks-cons i left (rest .0) (not-true _ (clean .0)) (masks-stand q left _ (i + 2) (rest .0) (rest .1)))
+  masks-stand q count least i masks h =
+      let stray = strayBit (t .n) (t .role) in
+      let clean = check-true _ _ _ h in
+      let ordered = check-true _ _ _ (clean .1) in
+      let size = length-words b count i in
+      let none = none-passes stray (wordsFrom b count i) (omega (arith, size, leb-true count (place stray (wordsFrom b count i)) (clean .0))) in
+      subst (MasksStand b t i count) (good-injective (ordered .1))
+      (record {
+        size = size;
+        each = λ k l. sym (words-place b count i k l);
+        clean = λ k l. none _ (getD-mem (wordsFrom b count i) k 0 (omega (arith, size)));
+      })
 
   successors-cons : (i left : ℕ) (successors : List ℕ) → byte b i < t .count
       → SuccessorsStand b t (i + 1) left successors → SuccessorsStand b t i (suc left) (byte b i ∷ successors)

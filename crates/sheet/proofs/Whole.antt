@@ -10,10 +10,10 @@ use lib.ListN.{length, getD}
 use borrow.Author.Tests.{leb-true, eqb-true}
 use Rattle.model.specs.Bytes.{byte, word}
 use Rattle.model.specs.Contract.{State, state, nowhere, has, offers, after}
-use Rattle.model.specs.Sheet.{Reading, Fault, Trailer, Sheet, good, trailer, goodTrailer, readSheet, sheetOf, contractIn, roleIn}
+use Rattle.model.specs.Sheet.{Reading, Fault, Trailer, Sheet, good, trailer, goodTrailer, rowStart, readSheet, sheetOf, contractIn, roleIn}
 use Rattle.model.proofs.Sheet.{WellFormed, good-injective, then-good, sheet-well-formed}
 use Rattle.sheet.specs.Union.{unionOf, onesBelow}
-use Rattle.sheet.specs.Whole.{IsSheet, IsState, rowStart}
+use Rattle.sheet.specs.Whole.{IsSheet, IsState}
 use Rattle.sheet.specs.Offer.{offerIn, placeIn, IsOffered}
 use Rattle.sheet.specs.declared.Offer.{Offer}
 use Rattle.sheet.proofs.Union.{has-union}

@@ -4,7 +4,7 @@ use mathlib.Core.List.{List}
 use Prim.Native.Nat.{ℕ}
 use Rattle.model.specs.Sheet as model
 use Rattle.model.specs.Sheet.{Reading, Fault, good, refusal}
-use Rattle.sheet.specs.Union.{unionFrom}
+use Rattle.sheet.specs.Union.{unionOf}
 use Rattle.sheet.specs.declared.parts.Trailer as declared
 use Rattle.sheet.specs.declared.Finding.{Finding}
 use Rattle.sheet.specs.declared.Finding.the-variants as F
@@ -23,10 +23,10 @@ unfoldable pub findingOf : {A : Type 0} → Reading Fault A → Finding
 findingOf (good a) = F.Whole
 findingOf (refusal f) = F.Fault (f .number) (f .state) (f .offset)
 
--- masks that were read, together with those of `union`
-unfoldable pub unionIn : ℕ → Reading Fault (List ℕ) → Masks
-unionIn union (good masks) = M.Union (unionFrom union masks)
-unionIn union (refusal f) = M.Fault (f .number) (f .state) (f .offset)
+-- the union of masks that were read
+unfoldable pub unionIn : Reading Fault (List ℕ) → Masks
+unionIn (good masks) = M.Union (unionOf masks)
+unionIn (refusal f) = M.Fault (f .number) (f .state) (f .offset)
 
 -- a row that was read: where the next one begins
 unfoldable pub behindIn : Reading Fault model.Row → Row

@@ -6,9 +6,9 @@ use mathlib.Core.List.{List}
 use Prim.Native.Nat.{ℕ, _+_, _*_, _<_}
 use lib.ListN.{length}
 use Rattle.model.specs.Contract.{state, offers}
-use Rattle.model.specs.Sheet.{contractIn}
+use Rattle.model.specs.Sheet.{rowStart, contractIn}
 use Rattle.sheet.specs.Union.{unionOf, onesBelow}
-use Rattle.sheet.specs.Whole.{IsState, rowStart}
+use Rattle.sheet.specs.Whole.{IsState}
 use Rattle.sheet.specs.declared.Offer.{Offer}
 
 -- "A row is: count of ready sets; each ready set as a 16-bit mask": the actions of state q, and where its successors begin

@@ -1,11 +1,10 @@
--- Bytes that are a sheet, and where its rows stand.
+-- Bytes that are a sheet, and its states.
 -- Assumes nothing.
 use mathlib.Core.Path.{_≡_}
 use mathlib.Core.List.{List}
-use Prim.Native.Nat.{ℕ, _+_, _*_, _<_}
+use Prim.Native.Nat.{ℕ, _<_}
 use lib.ListN.{length}
-use Rattle.model.specs.Bytes.{word}
-use Rattle.model.specs.Sheet.{Sheet, good, readSheet, contractIn, trailer}
+use Rattle.model.specs.Sheet.{Sheet, good, readSheet, contractIn}
 
 -- bytes that none of refusals 1 to 7 is given for
 abbrev pub IsSheet : List ℕ → Type 0
@@ -17,7 +16,3 @@ pub record IsState (b : List ℕ) (q : ℕ) : Type 0 where
   pub sheet : IsSheet b
   -- and q is the number of one of its states
   pub state : q < length (contractIn b .states)
-
--- "an index with a 16-bit offset per state": where the row of state q begins
-unfoldable pub rowStart : List ℕ → ℕ → ℕ
-rowStart b q = word b (trailer b .index + 2 * q)

@@ -4,10 +4,10 @@ ghost use Prim.Native.Nat.{_≤_, _<_};
 ghost use lib.ListN.{length, getD};
 ghost use Rattle.model.specs.Bytes.{byte};
 ghost use Rattle.model.specs.Contract.{partner, state, has, offers, after};
-ghost use Rattle.model.specs.Sheet.{readSheet, contractIn, roleIn};
+ghost use Rattle.model.specs.Sheet.{rowStart, readSheet, contractIn, roleIn};
 ghost use Rattle.sheet.specs.Union.{unionOf, onesBelow};
 ghost use Rattle.sheet.specs.Answers.{findingOf};
-ghost use Rattle.sheet.specs.Whole.{IsSheet, IsState, rowStart};
+ghost use Rattle.sheet.specs.Whole.{IsSheet, IsState};
 ghost use Rattle.sheet.specs.Offer.{offerIn, placeIn, IsOffered};
 
 pub mod parts;

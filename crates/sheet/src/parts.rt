@@ -5,12 +5,18 @@ ghost use mathlib.Core.Bool.{true};
 ghost use mathlib.Core.List.{[], _∷_};
 ghost use Prim.Native.Nat.{_+_, _*_, _≤_};
 ghost use lib.ListN.{length};
-ghost use Rattle.model.specs.Sheet.{trailer, goodTrailer, strayBit, masksFrom, successorsFrom, rowWith, rowAt, statesFrom};
+ghost use Rattle.model.specs.Lists.{place};
+ghost use Rattle.model.specs.Sheet.{trailer, goodTrailer, strayBit, outOfOrder, wordsFrom, masksFrom};
+ghost use Rattle.model.specs.Sheet.{successorsFrom, rowWith, rowAt, statesFrom};
+ghost use Rattle.sheet.specs.Union.{unionOf};
 ghost use Rattle.sheet.specs.Answers.{trailerOf, findingOf, unionIn, behindIn};
 use super::ACTION_BITS;
 use super::Finding;
 use super::ones_below;
 use little_endian::word_at;
+
+// A number above every mask.
+const ABOVE_MASKS: u32 = 65536;
 
 // The last 6 bytes of a sheet.
 pub struct Trailer {
@@ -19,6 +25,12 @@ pub struct Trailer {
     pub n: u8,
     pub role: u8,
     pub closing: u8,
+}
+
+// Masks seen in one pass: their union, and the first that is out of order, counted from 0, or how many there are.
+pub struct Scanned {
+    pub union: u16,
+    pub low: usize,
 }
 
 // The masks of a row: their union, or the first fault.
@@ -83,29 +95,66 @@ pub fn stray_bit(n: u8, role: u8, mask: u16) -> bool
     (role as u16) < mask / ACTION_BITS
 }
 
-// The `count` masks of state q from an offset on: strictly ascending, none with a stray bit.
-pub fn check_masks(b: &[u8], t: Trailer, q: u8, count: usize, at: usize) -> Masks
+// The first of `count` masks from an offset on that has a stray bit, counted from 0; `count` if none has.
+fn first_stray(b: &[u8], t: Trailer, count: usize, at: usize) -> usize
     requires { ⌜ (t .n ≤ 7) × (t .role ≤ 1) × (at + 2 * count ≤ length (now b)) × (length (now b) ≤ 2118) ⌝ }
-    ensures { λ r. ⌜ r ≡ unionIn 0 (masksFrom (now (b .entry)) (trailerOf t) q count 0 at) ⌝ }
+    ensures { λ r. ⌜ (r ≡ place (strayBit (t .n) (t .role)) (wordsFrom (now (b .entry)) count at)) × (r ≤ count) ⌝ }
 {
     let mut left = count;
     let mut i = at;
-    let mut low: u32 = 0;
-    let mut union: u16 = 0;
     while 0 < left {
-        let mask = word_at(b, i);
-        if (mask as u32) < low {
-            return Masks::Fault(5, q, i as u16);
+        if stray_bit(t.n, t.role, word_at(b, i)) {
+            return count - left;
         }
-        if stray_bit(t.n, t.role, mask) {
-            return Masks::Fault(6, q, i as u16);
-        }
-        low = mask as u32 + 1;
-        union = union | mask;
         i = i + 2;
         left = left - 1;
     }
-    Masks::Union(union)
+    count
+}
+
+// What `count` masks from an offset on are together. No mask behind one that is out of order is counted.
+fn scan_masks(b: &[u8], count: usize, at: usize) -> Scanned
+    requires { ⌜ (at + 2 * count ≤ length (now b)) × (length (now b) ≤ 2118) ⌝ }
+    ensures { λ r. ⌜ (r .union ≡ unionOf (wordsFrom (now (b .entry)) count at))
+        × (r .low ≡ outOfOrder 0 (wordsFrom (now (b .entry)) count at)) ⌝ }
+{
+    let mut left = count;
+    let mut i = at;
+    let mut least: u32 = 0;
+    let mut union: u16 = 0;
+    let mut low: usize = 0;
+    while 0 < left {
+        let mask = word_at(b, i);
+        union = union | mask;
+        if least <= mask as u32 {
+            least = mask as u32 + 1;
+            low = low + 1;
+        } else {
+            least = ABOVE_MASKS;
+        }
+        i = i + 2;
+        left = left - 1;
+    }
+    Scanned {
+        union: union,
+        low: low,
+    }
+}
+
+// The `count` masks of state q from an offset on: none with a stray bit, and then strictly ascending. Some mask has a stray
+// bit exactly if their union has one.
+pub fn check_masks(b: &[u8], t: Trailer, q: u8, count: usize, at: usize) -> Masks
+    requires { ⌜ (t .n ≤ 7) × (t .role ≤ 1) × (at + 2 * count ≤ length (now b)) × (length (now b) ≤ 2118) ⌝ }
+    ensures { λ r. ⌜ r ≡ unionIn (masksFrom (now (b .entry)) (trailerOf t) q count 0 at) ⌝ }
+{
+    let masks = scan_masks(b, count, at);
+    if stray_bit(t.n, t.role, masks.union) {
+        return Masks::Fault(6, q, (at + 2 * first_stray(b, t, count, at)) as u16);
+    }
+    if masks.low < count {
+        return Masks::Fault(5, q, (at + 2 * masks.low) as u16);
+    }
+    Masks::Union(masks.union)
 }
 
 // The `count` successors of state q from an offset on: each a state of the sheet.

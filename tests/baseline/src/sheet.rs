@@ -1,4 +1,4 @@
-//! Contracts, read from their sheets (document 01, "Contracts as sheets").
+//! Contracts, read from their sheets (document 01, "Contracts as sheets", and document 02, request 2/13).
 
 use crate::{Refusal, LONGEST_SHEET};
 
@@ -105,7 +105,8 @@ pub fn unwanted(n: u8, role: u8) -> u16 {
     !(names | names << 7 | mark)
 }
 
-/// Reads the row at an offset and gives its end, or the first of refusals 4 to 7.
+/// Reads the row at an offset and gives its end, or the first of refusals 4 to 7. Whether a mask has a bit too many is
+/// seen from all masks together.
 #[inline]
 fn read_row(row: &mut State, rows: &[u8], at: usize, unwanted: u16, count: u8) -> Result<usize, u8> {
     let &sets = rows.get(at).ok_or(4)?;
@@ -116,17 +117,20 @@ fn read_row(row: &mut State, rows: &[u8], at: usize, unwanted: u16, count: u8) -
     let masks = rows.get(at + 1..behind).ok_or(4)?;
     let (mut least, mut union) = (0, 0);
     row.ready = [NONE; MOST_READY as usize];
-    for (ready, mask) in row.ready.iter_mut().zip(masks.chunks_exact(2)) {
+    let mut left = row.ready.iter_mut().zip(masks.chunks_exact(2));
+    while let Some((ready, mask)) = left.next() {
         let mask = word(mask[0], mask[1]);
         if u32::from(mask) < least {
-            return Err(5);
-        }
-        if mask & unwanted != 0 {
-            return Err(6);
+            // The bits of this mask and of those behind it come before its order.
+            let all = left.fold(union | mask, |all, (_, mask)| all | word(mask[0], mask[1]));
+            return Err(if all & unwanted != 0 { 6 } else { 5 });
         }
         *ready = mask;
         least = u32::from(mask) + 1;
         union |= mask;
+    }
+    if union & unwanted != 0 {
+        return Err(6);
     }
     row.sets = sets;
     row.offered = union & ACTIONS;

@@ -140,6 +140,31 @@ fn roles_and_names() {
     assert_eq!(connect(255, &service, &sheet(2, 0, &[END]), 1, &mut plan), refused(9, 0));
 }
 
+/// The bits of all masks are tested before the order of any, whichever mask is the first at fault. With the numbers that
+/// a service's row and a client's are refused by, over one name: the client may have the success mark.
+#[test]
+fn masks_with_noise() {
+    const MARK: u16 = 1 << 14;
+    const NOISE: u16 = 1 << 15;
+    let cases: [(&[u16], u8, u8); 9] = [
+        (&[SEND_A, A], 5, 5),
+        (&[A, NOISE], 6, 6),
+        (&[NOISE, A], 6, 6),
+        (&[SEND_A, B], 6, 6),
+        (&[SEND_A, A, NOISE], 6, 6),
+        (&[A, A, B], 6, 6),
+        (&[A, A, MARK], 6, 5),
+        (&[MARK, A], 6, 5),
+        (&[MARK, A, MARK | NOISE], 6, 6),
+    ];
+    for (masks, service, client) in cases {
+        for (role, number) in [(0, service), (1, client)] {
+            let faulty = sheet(1, role, &[END, (masks, &[]), (&[NOISE], &[])]);
+            assert_eq!(complies(&faulty, &[]), (number, 1, 1, false), "{masks:?}, role {role}");
+        }
+    }
+}
+
 #[test]
 fn a_client_succeeds_or_waits_for_ever() {
     let service = sheet(1, 0, &[(&[A], &[1]), END]);

@@ -51,6 +51,11 @@ pub fn every_action(n: u8) -> u16 {
     names | names << 7
 }
 
+/// The bits that no ready set over n names may have in a role.
+pub fn forbidden(n: u8, role: u8) -> u16 {
+    !(every_action(n) | if role == CLIENT { SUCCESS } else { 0 })
+}
+
 impl Contract {
     pub fn sheet(&self) -> Vec<u8> {
         let (mut rows, mut index) = (Vec::new(), Vec::new());

@@ -14,3 +14,4 @@ pub mod runner;
 pub mod smaller;
 pub mod tally;
 pub mod target;
+pub mod untidy;

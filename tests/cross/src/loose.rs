@@ -18,9 +18,11 @@ pub struct Loose {
     rest: Vec<u8>,
 }
 
-/// What can be left out: states, or in the row of a state a ready set, a move or a row that it leads to, or an action.
+/// What can be left out: states, or so many bytes at the end of a state's row, or in it a ready set, a move or a row that
+/// it leads to, or an action.
 pub enum Edit {
     States(Range<usize>),
+    End(usize, usize),
     Part(usize, usize),
     Action(usize, usize),
 }
@@ -64,12 +66,11 @@ impl Loose {
     /// All that can be left out, what is large first.
     pub fn edits(&self) -> Vec<Edit> {
         let mut edits = Vec::new();
-        let mut size = self.rows.len() / 2;
-        while size > 0 {
+        for size in halves(self.rows.len()) {
             edits.extend((0..self.rows.len() / size).map(|piece| Edit::States(piece * size..(piece + 1) * size)));
-            size /= 2;
         }
         for (state, row) in self.rows.iter().enumerate() {
+            edits.extend(halves(row.len()).map(|size| Edit::End(state, size)));
             let parts = match self.kind {
                 Kind::Choosing => row.len(),
                 _ => row.first().copied().unwrap_or(0).into(),
@@ -89,6 +90,7 @@ impl Loose {
                 rows.drain(range.clone());
                 rows.iter_mut().for_each(|row| *row = self.redirected(row, range));
             }
+            Edit::End(state, size) => rows[*state].truncate(self.rows[*state].len() - size),
             Edit::Part(state, part) => rows[*state] = self.without_part(&rows[*state], *part)?,
             Edit::Action(state, action) => rows[*state] = self.without_action(&rows[*state], *action)?,
         }
@@ -133,6 +135,11 @@ impl Loose {
     }
 }
 
+/// The half of a number, the half of that, and so on to 1.
+fn halves(number: usize) -> impl Iterator<Item = usize> {
+    std::iter::successors(Some(number / 2), |size| Some(size / 2)).take_while(|size| *size > 0)
+}
+
 /// The rows of a body whose index stands at an offset; nothing if it does not say where rows end.
 fn rows_of(body: &[u8], offset: usize, count: usize, width: usize) -> Option<Vec<Vec<u8>>> {
     let (rows, index) = body.split_at_checked(offset)?;
@@ -142,6 +149,14 @@ fn rows_of(body: &[u8], offset: usize, count: usize, width: usize) -> Option<Vec
     let mut starts: Vec<usize> = index.chunks_exact(width).map(number).collect();
     starts.push(rows.len());
     starts.windows(2).map(|ends| rows.get(ends[0]..ends[1]).map(<[u8]>::to_vec)).collect()
+}
+
+/// The ready sets of a state of a sheet, if they are where index and trailer say.
+pub fn masks_at(sheet: &[u8], state: usize) -> Option<Vec<u16>> {
+    let trailer = sheet.len().checked_sub(6)?;
+    let index = number(&sheet[trailer..trailer + 2]);
+    let entry = index + 2 * state;
+    masks_of(sheet.get(number(sheet.get(entry..entry + 2)?)..index)?)
 }
 
 /// The ready sets of a sheet's row, if they are there.
@@ -207,6 +222,14 @@ mod tests {
     }
 
     #[test]
+    fn ready_sets_are_found_by_their_state() {
+        let sheet = [1, 3, 0, 1, 1, 2, 1, 0, 2, 1, 0, 0, 5, 0, 10, 0, 2, 2, 0, 0xC5];
+        assert_eq!(masks_at(&sheet, 0), Some(vec![3]));
+        assert_eq!(masks_at(&sheet, 1), Some(vec![1, 0x102]));
+        assert_eq!(masks_at(&sheet[..sheet.len() - 1], 0), None);
+    }
+
+    #[test]
     fn a_row_an_action_and_a_successor_are_left_out() {
         let rows = [[0, 1, 2].as_slice(), &[1, 0, 0], &[1, 3, 0, 2, 0, 2, 1, 1]].concat();
         let bytes = [rows.as_slice(), &[0, 0, 3, 0, 6, 0], &[14, 0, 3, 2, 0, 0xC6]].concat();
@@ -215,6 +238,19 @@ mod tests {
         let left = [Edit::States(1..2), Edit::Action(1, 1), Edit::Part(1, 0)];
         let left = left.iter().try_fold(whole.expect("rows"), |sheet, edit| sheet.without(edit));
         let rows = [0, 1, 1, 1, 1, 0, 1, 1, 0, 0, 3, 0, 8, 0, 2, 2, 0, 0xC6];
+        assert_eq!(left.map(|sheet| sheet.bytes()), Some(rows.to_vec()));
+    }
+
+    #[test]
+    fn the_end_of_a_row_is_left_out() {
+        let sheet = Loose::sheet(&[1, 0, 0, 9, 9, 9, 9, 1, 0, 0, 0, 0, 7, 0, 10, 0, 2, 0, 0, 0xC5]).expect("rows");
+        let sizes = sheet.edits().into_iter().filter_map(|edit| match edit {
+            Edit::End(0, size) => Some(size),
+            _ => None,
+        });
+        assert_eq!(sizes.collect::<Vec<_>>(), [3, 1]);
+        let left = sheet.without(&Edit::End(0, 3)).and_then(|sheet| sheet.without(&Edit::End(0, 1)));
+        let rows = [1, 0, 0, 1, 0, 0, 0, 0, 3, 0, 6, 0, 2, 0, 0, 0xC5];
         assert_eq!(left.map(|sheet| sheet.bytes()), Some(rows.to_vec()));
     }
 

@@ -10,6 +10,7 @@ mod noise;
 mod pairs;
 mod single;
 mod steps;
+mod untidy;
 
 use crate::call::{Call, Connect};
 use crate::chance::Chance;
@@ -30,7 +31,7 @@ impl Share {
 type Part = fn(&mut Runner, &mut Chance, Share) -> Checked;
 
 /// The parts, by name.
-pub const PARTS: [(&str, Part); 14] = [
+pub const PARTS: [(&str, Part); 15] = [
     ("nothing lent, nothing given", empty::run),
     ("lengths at and beyond the limits", lengths::run),
     ("random bytes of all lengths", noise::run),
@@ -45,6 +46,7 @@ pub const PARTS: [(&str, Part); 14] = [
     ("edited choosing sheets", choosing::edits),
     ("every byte of choosing sheets changed", single::choosing_sheets),
     ("choosing sheets of all lengths", choosing::lengths),
+    ("untidy masks", untidy::run),
 ];
 
 /// An emitted plan that is not trivial, of at most so many bytes.

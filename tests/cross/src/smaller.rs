@@ -1,5 +1,5 @@
-//! A smaller input with the same fault: states, rows, ready sets, actions and moves are left out, bytes are cut and
-//! lowered, numbers lowered, one after the other, for as long as something can be.
+//! A smaller input with the same fault: states, rows and their ends, ready sets, actions and moves are left out, bytes
+//! are cut and lowered, numbers lowered, one after the other, for as long as something can be.
 
 use crate::call::{Call, Field};
 use crate::loose::Loose;

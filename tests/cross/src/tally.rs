@@ -2,6 +2,7 @@
 
 use crate::call::Call;
 use crate::target::Figures;
+use crate::untidy::out_of_order_first;
 
 /// The highest number of a refusal.
 const LAST: usize = 20;
@@ -21,6 +22,8 @@ pub struct Tally {
     situations: [u64; 4],
     after_removal: u64,
     yes: u64,
+    /// Rows refused for a bit too many whose first mask at fault is out of order.
+    out_of_order: u64,
     /// Choosing sheets converted to sheets of fewer than 100 bytes, than 1,000, and more.
     converted: [u64; 3],
 }
@@ -40,6 +43,7 @@ impl Tally {
         }
         self.after_removal += u64::from(function == 0 && number == 0 && figures[5] > 0);
         self.yes += u64::from(function == 2 && figures[3] == 1);
+        self.out_of_order += u64::from(out_of_order_first(call, figures));
         if function == 3 && number == 0 {
             self.converted[(figures[3].ilog10() as usize).saturating_sub(1).min(2)] += 1;
         }
@@ -64,6 +68,9 @@ impl Tally {
         }
         if self.yes == 0 || self.yes == self.numbers[2][0] {
             missing.push("the client check did not say both yes and no".into());
+        }
+        if self.out_of_order == 0 {
+            missing.push("no row was refused for a bit too many whose first mask at fault is out of order".into());
         }
         if self.converted.contains(&0) {
             missing.push("no choosing sheets were converted to tens, hundreds or thousands of bytes".into());
@@ -92,6 +99,7 @@ impl Tally {
             "accepted after removals: {}; client complies: {}, does not: {no}\n",
             self.after_removal, self.yes
         );
+        lines += &format!("refused for a bit too many, a mask out of order first: {}\n", self.out_of_order);
         let [tens, hundreds, thousands] = self.converted;
         lines + &format!("converted to bytes below 100: {tens}, below 1,000: {hundreds}, more: {thousands}\n")
     }

@@ -7,6 +7,7 @@ use cross::guarded::Guarded;
 use cross::parts::{Share, PARTS};
 use cross::runner::{Checked, Ended, Runner};
 use cross::target::{Baseline, Figures, Outcome, Product, Target};
+use cross::untidy::out_of_order_first;
 use std::path::PathBuf;
 
 /// What a wrong side changes: the figures, the lent plan or output, or whether all else is as due.
@@ -78,6 +79,20 @@ fn a_wrong_state_of_a_refusal() {
     };
     // Two rows, the second with one ready set and one successor, the index and the trailer.
     assert_eq!((old.len(), new.len()), (3 + 4 + 4 + 6, 0));
+}
+
+#[test]
+fn a_row_tested_mask_by_mask() {
+    let call = caught("masks", |call, figures, _, _| {
+        if matches!(call, Call::Connect(_)) && figures[1] == 1 && out_of_order_first(call, figures) {
+            figures[0] = 5;
+        }
+    });
+    let Call::Connect(Connect { k: 0, old, new, records: 0, room: 0, null: false, small: false }) = call else {
+        panic!("not small: {call:?}");
+    };
+    // One row of two masks with both faults in the second, or of three with one fault in each of the last.
+    assert!(old.len() <= 1 + 3 * 2 + 2 + 6 && new.is_empty(), "{old:?}, {new:?}");
 }
 
 #[test]

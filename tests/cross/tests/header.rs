@@ -10,7 +10,7 @@ use std::process::Command;
 const HERE: &str = env!("CARGO_MANIFEST_DIR");
 
 /// The header's, which rises with every change of it.
-const VERSION: u32 = 2;
+const VERSION: u32 = 3;
 
 /// The words for the numbers, document 01's for 0 to 16.
 #[rustfmt::skip]

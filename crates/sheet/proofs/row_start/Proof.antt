@@ -4,8 +4,7 @@ use mathlib.Core.Path.{ap, _∙_}
 use Prim.Native.Nat.{ℕ, _+_, _*_}
 use native.Mathlib.Omega.{arith}
 use Rattle.model.specs.Bytes.{word}
-use Rattle.model.specs.Sheet.{trailer}
-use Rattle.sheet.specs.Whole.{rowStart}
+use Rattle.model.specs.Sheet.{trailer, rowStart}
 use Rattle.sheet.proofs.Whole.{sheet-stands, entry-within}
 use borrow.Author.Needs.{needs}
 use Rattle.sheet.proofs.row_start.Statement.{statement}
