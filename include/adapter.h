@@ -1,18 +1,18 @@
 /*
- * Connecting two service contracts, stepping a plan, checking a client against a service, converting a choosing sheet: the proved library
- * for C and C++.
+ * Connecting two service contracts, stepping a plan, checking a client against a service, converting a choosing sheet, checking a plan from
+ * any hand: the proved library for C and C++.
  *
  * `rt staticlib adapter` proves the library and writes it to target/staticlib/libadapter.a, for x86-64 Linux. It needs nothing else but
  * memcpy and memset of the C library. examples/c is a program that uses it. The rules, sheets and plans are those of document 01 with
- * request 2/13 of document 02, choosing sheets those of its request 1/13; the words in quotation marks below are taken from them.
- * docs/FORMATS.md explains sheets and plans byte by byte, docs/GLOSSARY.md the words.
+ * request 2/13 of document 02, choosing sheets those of its request 1/13, the check of a plan that of its request 3/13; the words in
+ * quotation marks below are taken from them. docs/FORMATS.md explains sheets and plans byte by byte, docs/GLOSSARY.md the words.
  *
  * What the caller promises. The proof begins here: of a call that breaks one of these, nothing is said.
  *   - Each pointer leads to as many elements as the length behind it says, in one object, all of them initialised; any values will do. A
  *     length counts elements: records for the work table, bytes for all else. With length 0 the pointer may be null.
  *   - The work table is aligned as an array of struct adapter_record is, to 4 bytes. Bytes may stand anywhere.
  *   - The work table, the lent plan and the lent output overlap nothing else that is passed. What is only read may overlap: one sheet may
- *     be passed twice.
+ *     be passed twice. A plan is lent to adapter_connect alone; a plan that is stepped or checked is only read.
  *   - While a call runs, nothing else writes to what is passed, or reads the work table, the lent plan or the lent output.
  *
  * What it gets for that. Bytes of all kinds and lengths are answered, by a result or a refusal; every call ends; no call reads or writes
@@ -34,7 +34,7 @@ extern "C" {
 #endif
 
 /* Rises with every change of this header. */
-#define ADAPTER_HEADER_VERSION 3
+#define ADAPTER_HEADER_VERSION 4
 
 /*
  * The bytes of the longest sheet. A longer one is refused as ADAPTER_LENGTH. With this much lent, no choosing sheet is refused as
@@ -42,7 +42,10 @@ extern "C" {
  */
 #define ADAPTER_LONGEST_SHEET 2118
 
-/* The most situations of a pair, and the most states of a plan. More records than these are never used. */
+/*
+ * The most situations of two sheets, the most states of a plan, and the most pairs of plan state and situation in a check of a plan. More
+ * records than these are never used.
+ */
 #define ADAPTER_MOST_SITUATIONS 4096
 
 /* The bytes of the longest plan: so many states with 42 moves of 3 bytes each. With this much lent, none is refused as ADAPTER_ROOM. */
@@ -65,34 +68,38 @@ enum adapter_refusal {
     ADAPTER_ACTION = 6,      /* a bit for no name, bit 15, or bit 14 in role 0 */
     ADAPTER_SUCCESSOR = 7,   /* successor not below the state count */
     ADAPTER_ROLE = 8,        /* wrong role for the place */
-    ADAPTER_NAMES = 9,       /* the two sheets differ in n */
+    ADAPTER_NAMES = 9,       /* the two sheets differ in n, or a checked plan differs from them */
     ADAPTER_RANK = 10,       /* k above 3 */
-    ADAPTER_CAPACITY = 11,   /* reached situations exceed the lent records or 4,096 */
+    ADAPTER_CAPACITY = 11,   /* reached situations, in a check of a plan reached pairs, exceed the lent records or 4,096 */
     ADAPTER_NO_ADAPTER = 12, /* the start is removed: no weak k-subcontract relation holds it */
     ADAPTER_ROOM = 13,       /* the plan is longer than the lent plan, or the sheet than the lent output */
-    ADAPTER_PLAN = 14,       /* a stepped plan breaks the plan layout */
+    ADAPTER_PLAN = 14,       /* a stepped or checked plan breaks the plan layout */
     ADAPTER_STATE = 15,      /* not a state of the plan */
     ADAPTER_MOVE = 16,       /* code not in that row */
     ADAPTER_CHOOSING = 17,   /* a choosing sheet of any other form */
     ADAPTER_CIRCLE = 18,     /* a circle of internal moves, reached or not */
     ADAPTER_STATES = 19,     /* more than 64 states */
-    ADAPTER_READY_SETS = 20  /* more than 8 ready sets in a state */
+    ADAPTER_READY_SETS = 20, /* more than 8 ready sets in a state */
+    ADAPTER_UNSOUND = 21     /* unsound plan */
 };
 
 /*
  * A record of the work table: 208 bytes, aligned to 4. What stands in it is the library's own and may change; a caller makes room for
- * records and looks at none. It holds a situation and all that the library keeps of it.
+ * records and looks at none. It holds a situation, in a check of a plan with a plan state, and all that the library keeps of it.
  */
 struct adapter_record {
     uint32_t room[52];
 };
 
-/* What connecting answers, in 16 bytes. Bytes between the fields mean nothing. */
+/*
+ * What connecting answers, and the check of a plan, in 16 bytes. Bytes between the fields mean nothing. In the check's answer the counts
+ * and the length are 0, whatever the number.
+ */
 struct adapter_answer {
-    uint8_t number;      /* an enum adapter_refusal, up to ADAPTER_ROOM */
+    uint8_t number;      /* an enum adapter_refusal: of connecting up to ADAPTER_ROOM, of the check 0 to 9, 11, 14 or 21 */
     uint8_t sheet;       /* of refusals 1 to 8: 1 for the old sheet, 2 for the new one; else 0 */
-    uint8_t state;       /* of refusals 4 to 7: the state at fault; else 0 */
-    uint16_t situations; /* the counts: 0 0 0 for refusals 1 to 11 */
+    uint8_t state;       /* of refusals 4 to 7: the state of that sheet at fault; else 0 */
+    uint16_t situations; /* the counts of connecting: 0 0 0 for refusals 1 to 11 */
     uint16_t states;     /* of the plan; 0 for refusal 12 */
     uint16_t rounds;     /* that removed a situation */
     uint32_t length;     /* of the plan, in bytes; 0 on a refusal */
@@ -118,6 +125,20 @@ struct adapter_sheet_answer {
     uint8_t sheet;   /* 0 */
     uint8_t state;   /* 0 */
     uint16_t length; /* of the sheet that was written, in bytes; 0 on a refusal */
+};
+
+/*
+ * What is at fault in a plan that the check refuses as ADAPTER_UNSOUND, in 22 bytes with none between the fields. All zero for every other
+ * answer. adapter_plan_fault says what the conditions are.
+ */
+struct adapter_fault {
+    uint8_t condition;  /* the first that fails: 1, 2 or 3; 0 where nothing is at fault */
+    uint8_t code;       /* of conditions 1 and 2: the code of the first move of the row that breaks it; else 0 */
+    uint16_t ready;     /* of condition 3: the mask of the first ready set of the new state that is not answered; else 0 */
+    uint16_t state;     /* the plan state whose row it is */
+    uint8_t counts[14]; /* the messages that wait there: of name i, counts[i] for the service and counts[7 + i] for the client */
+    uint8_t old_state;  /* the state of the old sheet there */
+    uint8_t new_state;  /* the state of the new sheet there */
 };
 
 /*
@@ -158,6 +179,51 @@ struct adapter_complies_answer adapter_complies(const uint8_t *client, size_t cl
  */
 struct adapter_sheet_answer adapter_from_choosing(const uint8_t *choosing, size_t choosing_len, uint8_t *sheet, size_t sheet_len);
 
+/*
+ * Whether a plan holds for two service sheets, whoever wrote it or edited it; the sheets as for connecting, the old one first. k and n are
+ * the plan's own. plan_len is the plan's length, and not how much room there is.
+ *
+ * Walked are "the pairs of plan state and situation that the rows' enabled moves reach", from plan state 0 and the start on. The number is
+ * ADAPTER_ACCEPTED exactly if in each of them the three conditions of adapter_plan_fault hold. What is proved of runs of a plan that
+ * connecting wrote then holds of this one: a client that complies with the old sheet comes to a standstill only where it has succeeded, and
+ * at most 2 times k times n moves with the service alone come in a row. ADAPTER_UNSOUND does not mean that some client will hang: the
+ * conditions ask for more than that.
+ *
+ * The first refusal in this order is the answer: 1 to 7 of the old sheet, 1 to 7 of the new one, 8, 9, 14, 9 again where the plan's n is
+ * not that of the sheets, 11, 21. 11 comes before 21: pairs are counted to the end, also behind one that breaks a condition. So with too
+ * few records nothing is said of the plan.
+ *
+ * The work table is the memory of the call, a record for each pair; it has to be initialised, as for connecting. For a plan that connecting
+ * wrote for these sheets one record for each plan state is enough: `states` of that answer. It stays enough when moves are struck out,
+ * which adds no pair. After other edits a plan state can stand in more pairs than one. After the call:
+ *
+ *   number         the work table
+ *   1 to 9, 14     unchanged
+ *   0, 11, 21      each record in it is zero
+ */
+struct adapter_answer adapter_check_plan(const uint8_t *old_sheet, size_t old_len, const uint8_t *new_sheet, size_t new_len,
+                                         const uint8_t *plan, size_t plan_len, struct adapter_record *work, size_t work_len);
+
+/*
+ * What is at fault where adapter_check_plan answers ADAPTER_UNSOUND for the same arguments; all zero where it gives any other answer. It
+ * walks the pairs by itself, so neither call has to come before the other, and leaves the work table as that one does.
+ *
+ * The fault is in the first pair, breadth first and codes ascending, in which one of these does not hold, and it is the first that does
+ * not:
+ *
+ *   condition 1    "every move of the row keeps the buffer within 0 to k", also one that nobody can make. `code` does not: it would hand on
+ *                  a message that is not there, or keep one too many.
+ *   condition 2    "every move that the new state can meet is one the old state can meet too (a state meets a move if it offers j; the new
+ *                  also meets every 16+j, the old every 32+j)". The new state can meet `code`, and the old state cannot.
+ *   condition 3    "the row as A passes 01's test". If the new service has chosen the ready set `ready`, no ready set of the old state lies
+ *                  within what the row then shows the client, and the row has no move with the service alone for an action of `ready`. The
+ *                  ready set with no action has the mask 0.
+ *
+ * So with 1 and 2 the row has a move that it must not have in this pair, and with 3 one is missing, as when it was struck out.
+ */
+struct adapter_fault adapter_plan_fault(const uint8_t *old_sheet, size_t old_len, const uint8_t *new_sheet, size_t new_len,
+                                        const uint8_t *plan, size_t plan_len, struct adapter_record *work, size_t work_len);
+
 #if defined(__cplusplus) && __cplusplus >= 201103L
 #define ADAPTER_ASSERT static_assert
 #elif defined(__STDC_VERSION__) && __STDC_VERSION__ >= 201112L
@@ -169,6 +235,7 @@ ADAPTER_ASSERT(sizeof(struct adapter_answer) == 16, "the answer of connecting ha
 ADAPTER_ASSERT(sizeof(struct adapter_step_answer) == 4, "the answer of stepping has 4 bytes");
 ADAPTER_ASSERT(sizeof(struct adapter_complies_answer) == 4, "the answer of the client check has 4 bytes");
 ADAPTER_ASSERT(sizeof(struct adapter_sheet_answer) == 6, "the answer of converting has 6 bytes");
+ADAPTER_ASSERT(sizeof(struct adapter_fault) == 22, "a fault has 22 bytes");
 #undef ADAPTER_ASSERT
 #endif
 

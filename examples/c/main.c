@@ -1,8 +1,9 @@
 /*
  * Connects the pair M1 of document 01, prints the answer and the plan, steps the plan, checks a client of the old service, and converts a
- * choosing sheet.
+ * choosing sheet. Then it checks the plan, strikes its move out, checks it again and says what is at fault.
  */
 #include <stdio.h>
+#include <string.h>
 
 #include "adapter.h"
 
@@ -56,10 +57,10 @@ static size_t print_bytes(const uint8_t *bytes, size_t at, size_t count, const c
 }
 
 /* Prints the plan: a row for each state, the index, the trailer. A row is the count of its moves and three bytes for each. */
-static void print_plan(unsigned states)
+static void print_plan(const char *name, unsigned states)
 {
     size_t at = 0;
-    printf("plan ");
+    printf("%s ", name);
     for (unsigned state = 0; state < states; state++) {
         at = print_bytes(plan, at, 1 + 3 * (size_t)plan[at], ", ");
     }
@@ -85,6 +86,82 @@ static uint16_t step(uint32_t length, uint16_t state, uint8_t code)
     }
 }
 
+/* An offset in the plan's index or trailer: 32 bits, the low byte first. */
+static uint32_t offset_at(const uint8_t *at)
+{
+    return (uint32_t)at[0] | (uint32_t)at[1] << 8 | (uint32_t)at[2] << 16 | (uint32_t)at[3] << 24;
+}
+
+static void set_offset(uint8_t *at, uint32_t offset)
+{
+    for (unsigned i = 0; i < 4; i++) {
+        at[i] = (uint8_t)(offset >> 8 * i);
+    }
+}
+
+/*
+ * Strikes a move out of the plan, and gives the plan's length then. The row has a move less, and all that lies behind the move comes three
+ * bytes nearer: so the index has other offsets for the rows behind, and the trailer for the index. A plan without the move stays as it is.
+ */
+static uint32_t strike_out(uint32_t length, uint16_t state, uint8_t code)
+{
+    uint8_t *trailer = plan + length - 8;
+    uint8_t *index = plan + offset_at(trailer);
+    uint8_t *row = plan + offset_at(index + 4 * (size_t)state);
+    uint8_t *move = row + 1;
+    uint8_t *behind = move + 3 * (size_t)row[0];
+    while (move < behind && move[0] != code) {
+        move += 3;
+    }
+    if (move == behind) {
+        return length;
+    }
+    row[0]--;
+    for (uint8_t *entry = index + 4 * ((size_t)state + 1); entry < trailer; entry += 4) {
+        set_offset(entry, offset_at(entry) - 3);
+    }
+    set_offset(trailer, offset_at(trailer) - 3);
+    memmove(move, move + 3, (size_t)(plan + length - (move + 3)));
+    return length - 3;
+}
+
+/* What is at fault in the plan, in words. */
+static void print_fault(const struct adapter_fault *fault)
+{
+    unsigned waiting = 0;
+    for (unsigned i = 0; i < 14; i++) {
+        waiting += fault->counts[i];
+    }
+    printf("plan state %u, old state %u, new state %u, messages waiting: %u\n", (unsigned)fault->state, (unsigned)fault->old_state,
+           (unsigned)fault->new_state, waiting);
+    switch (fault->condition) {
+    case 1:
+        printf("code %u hands on a message that is not there, or keeps one too many\n", (unsigned)fault->code);
+        break;
+    case 2:
+        printf("code %u is a move that the new state can meet and the old state cannot\n", (unsigned)fault->code);
+        break;
+    case 3:
+        printf("the row does not answer the new state's ready set %04X\n", (unsigned)fault->ready);
+        break;
+    default:
+        printf("nothing is at fault\n");
+    }
+}
+
+/* Checks the plan with a record for each of its states, and says what is at fault if it does not hold. */
+static void check(uint32_t length, size_t states)
+{
+    struct adapter_answer answer =
+        adapter_check_plan(old_sheet, sizeof old_sheet, new_sheet, sizeof new_sheet, plan, length, work, states);
+    printf("check: number %u\n", (unsigned)answer.number);
+    if (answer.number == ADAPTER_UNSOUND) {
+        struct adapter_fault fault =
+            adapter_plan_fault(old_sheet, sizeof old_sheet, new_sheet, sizeof new_sheet, plan, length, work, states);
+        print_fault(&fault);
+    }
+}
+
 int main(void)
 {
     struct adapter_answer answer =
@@ -94,7 +171,7 @@ int main(void)
     if (answer.number != ADAPTER_ACCEPTED) {
         return 1;
     }
-    print_plan(answer.states);
+    print_plan("plan", answer.states);
 
     /* Code 0 passes a straight. It can be made once. */
     uint16_t state = step(answer.length, 0, 0);
@@ -107,5 +184,11 @@ int main(void)
     struct adapter_sheet_answer converted = adapter_from_choosing(choosing_sheet, sizeof choosing_sheet, sheet, sizeof sheet);
     printf("choosing: number %u, sheet ", (unsigned)converted.number);
     print_bytes(sheet, 0, converted.length, "\n");
+
+    /* The plan as connecting wrote it, and with its only move struck out: then nobody takes the client's a. */
+    check(answer.length, answer.states);
+    uint32_t length = strike_out(answer.length, 0, 0);
+    print_plan("struck out", answer.states);
+    check(length, answer.states);
     return 0;
 }

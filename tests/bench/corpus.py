@@ -1,18 +1,20 @@
 """Writes the benchmark's inputs: `python3 -m tests.bench.corpus FOLDER` from the repository's root.
 
-Two files, `inputs` and `random`, of records that follow one another: name
-(8-bit length and that many bytes); lent records (16 bits); lent plan bytes (32
-bits); k (8 bits); the old sheet and the new one, each behind its length (16
-bits).  Numbers are little-endian.  The names of random pairs are empty.  And
-two files, `choosing` and `random-choosing`, of the records that
-choosing_corpus.py has.  Every run writes the same bytes.
+Three files, `inputs`, `random` and `plans`, of records that follow one another:
+name (8-bit length and that many bytes); lent records (16 bits); lent plan bytes
+(32 bits); k (8 bits); the old sheet and the new one, each behind its length (16
+bits).  Numbers are little-endian.  The names of random pairs are empty.  The
+pairs of `plans` are connected, and then their plans checked.  Two files,
+`choosing` and `random-choosing`, are of the records that choosing_corpus.py
+has, and one, `random-plans`, of those that plans_corpus.py has.  Every run
+writes the same bytes.
 """
 
 import sys
 from pathlib import Path
 from typing import NamedTuple
 
-from tests.bench import choosing_corpus
+from tests.bench import choosing_corpus, plans_corpus
 from tests.reference.chance import Chance
 from tests.reference.pair_cases import small_sheets
 from tests.reference.random_contracts import Shape, random_contract, resembling
@@ -226,6 +228,23 @@ def inputs():
     yield from full_sheets()
 
 
+# Pairs whose plans are checked.  The rows of the last family have more and more
+# moves, all of which lead to the same state; nothing else changes.
+
+
+def rows_of_moves():
+    for moves in (1, 2, 4, 8, 14):
+        ready = [mask(*range(moves))]
+        yield Input(f"rows of moves, {moves}", 0, cycle(7, 64, ready, ready), cycle(7, 63, ready, ready))
+
+
+def plans():
+    """Those above that connect, and the rows of moves."""
+    refused = ("editor, no receipt", "hundreds, no adapter", "a thousand, no adapter", "four thousand, no adapter")
+    yield from (one for one in (*editor(), *chosen(), *every_buffer()) if one.name not in refused)
+    yield from rows_of_moves()
+
+
 def random_sheets(chance):
     """Small pairs, damaged ones, and one in 50 of some hundred situations."""
     if chance.one_in(50):
@@ -257,6 +276,8 @@ def main(folder):
     for name, made in (
         ("inputs", inputs()),
         ("random", random_pairs()),
+        ("plans", plans()),
+        ("random-plans", plans_corpus.random_inputs()),
         ("choosing", choosing_corpus.inputs()),
         ("random-choosing", choosing_corpus.random_inputs()),
     ):

@@ -7,14 +7,14 @@ repository's root.
     make show KIND NUMBER   a case, counted from 0: label, bytes, expected lines
     make write KIND FOLDER  the two files of any kind, into a folder
 
-A kind is one of sheets, pairs, steps, clients, runs, choosing.
+A kind is one of sheets, pairs, steps, clients, runs, choosing, edits.
 """
 
 import sys
 from collections import Counter
 from pathlib import Path
 
-from . import choosing_cases, client_cases, pair_cases, run_cases, sheet_cases, step_cases
+from . import choosing_cases, client_cases, edit_cases, pair_cases, run_cases, sheet_cases, step_cases
 from .framing import packed
 from .program import printed
 from .program_inputs import stored_inputs
@@ -26,6 +26,7 @@ KINDS = {
     "clients": client_cases,
     "runs": run_cases,
     "choosing": choosing_cases,
+    "edits": edit_cases,
 }
 
 #: The kinds that a test program runs, and its crate.
@@ -36,6 +37,7 @@ STORED = {
     "clients": Path("crates/client_cases"),
     "runs": Path("crates/run_cases"),
     "choosing": Path("crates/choosing_cases"),
+    "edits": Path("crates/edit_cases"),
 }
 
 

@@ -13,6 +13,7 @@ from .chance import Chance
 from .choosing_selfcheck import ChoosingSheets, HiddenChoices, NoCircle, Reading
 from .compliance import check_client, complies
 from .connecting import ZERO_RECORD, Answer, connect
+from .edit_selfcheck import PlansByHand
 from .game import (
     OPENING,
     Board,
@@ -32,7 +33,7 @@ from .runs import At, Attempt, run
 from .sheets import CLIENT, SERVICE, Contract, Refusal, offered, read_sheet, state, write_sheet
 
 #: Checked with the rest.
-OTHERS = ChoosingSheets, HiddenChoices, NoCircle, Reading, MasksWithNoise
+OTHERS = ChoosingSheets, HiddenChoices, NoCircle, Reading, MasksWithNoise, PlansByHand
 
 MARKED = Situation((9,) * 14, 9, 9)
 

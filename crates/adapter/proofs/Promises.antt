@@ -1,13 +1,15 @@
--- Demand 3, the meaning of a no and what converting says, over the entry points' contracts: what connecting ensures is what `connectOf` gives,
--- and what converting ensures is what `convertInto` gives, so `demand-3`, `refused-for-good` and `converting` speak of them.
+-- The promises over the entry points' contracts. What connecting ensures is what `connectOf` gives, the check of a plan `checkPlanOf`, and
+-- converting `convertInto`; so `demand-3`, `refused-for-good`, `any-hand`, `ours-pass` and `converting` speak of them.
 -- Assumes nothing.
 use mathlib.Core.Path.{_≡_, sym, ap, subst, subst⁻¹, _∙_}
 use mathlib.Core.List.{List}
-use Prim.Native.Nat.{ℕ}
-use lib.ListN.{take}
+use Prim.Native.Nat.{ℕ, _≤_}
+use lib.ListN.{length, take}
 use Rattle.model.specs.Connect.{Connected, connectOf}
-use Rattle.model.specs.Sheet.{contractIn}
+use Rattle.model.specs.Sheet.{Sheet, good, readSheet, contractIn}
 use Rattle.model.specs.Plan as model
+use Rattle.model.specs.Plan.{readPlan}
+use Rattle.model.specs.Run.{Attempt}
 use Rattle.model.specs.Demands.{emittedPlan, Follows, Runs}
 use Rattle.model.proofs.ClientCheck.{yes-complies}
 use Rattle.model.proofs.Demand3.{demand-3}
@@ -20,9 +22,13 @@ use Rattle.comply.specs.Answer.{complianceOf}
 use Rattle.connect.specs.Answers.{answerOf}
 use Rattle.connect.specs.declared.Answer.{Answer}
 use Rattle.comply.specs.declared.Compliance.{Compliance}
+use Rattle.edits.specs.Check.{CheckedPlan, checkPlanOf}
+use Rattle.edits.specs.Promises.{rankOf}
+use Rattle.edits.proofs.AnyHand.{any-hand}
+use Rattle.edits.proofs.Ours.{ours-pass}
 use Rattle.choosing.specs.Promises.{ConvertingSays}
 use Rattle.choosing.proofs.Says.{converting}
-use Rattle.adapter.specs.Promises.{EntryDemand-3, EntryRefusedForGood, EntryConverting}
+use Rattle.adapter.specs.Promises.{RunsByAnswers, EntryDemand-3, EntryRefusedForGood, EntryAnyHand, EntryOursPass, EntryConverting}
 
 module _ (k : ℕ) (old new : List ℕ) (answer : Answer) (work work′ : List Record) (plan plan′ : List ℕ)
     (ensured : record { answer = answerOf answer; plan = plan′; work = work′ } ≡ connectOf blank k old new work plan) where
@@ -34,18 +40,27 @@ module _ (k : ℕ) (old new : List ℕ) (answer : Answer) (work work′ : List R
   unfolding answerOf
   number-is number z = ap (λ (c : Connected Record). c .answer .number) (sym ensured) ∙ z
 
+  same-states : answer .states ≡ connectOf blank k old new work plan .answer .states
+  unfolding answerOf
+  same-states = ap (λ (c : Connected Record). c .answer .states) ensured
+
+check-number : (old new plan : List ℕ) (answer : Answer) (work work′ : List Record)
+    → record { answer = answerOf answer; work = work′ } ≡ checkPlanOf blank old new plan work
+    → answer .number ≡ checkPlanOf blank old new plan work .answer .number
+unfolding answerOf
+check-number old new plan answer work work′ ensured = ap (λ (c : CheckedPlan Record). c .answer .number) ensured
+
 -- a record of the answer's fields is what stepping gives
 same-step : (answer : Stepped) (s : model.Stepped) → answer ≡ steppedOf s → record { number = answer .number; state = answer .state } ≡ s
 unfolding steppedOf
 same-step answer s e = λ i. record { number = e i .number; state = e i .state }
 
-pub entry-demand-3 : EntryDemand-3
+-- what is said of the runs of a plan, in the words of what stepping and the client check answer
+runs-by-answers : (k : ℕ) (client old new bytes : List ℕ) (user : Sheet) (attempts : List Attempt) → readSheet client ≡ good user
+    → Runs k (user .contract) (contractIn old) (contractIn new) bytes attempts
+    → RunsByAnswers k client old (user .contract) (contractIn new) bytes attempts
 unfolding complianceOf
-entry-demand-3 k old new answer work work′ plan plan′ client user attempts ensured z read =
-    let r : Runs k (user .contract) (contractIn old) (contractIn new) (take (answer .length) plan′) attempts =
-    subst (λ (b : List ℕ). Runs k (user .contract) (contractIn old) (contractIn new) b attempts)
-    (same-bytes k old new answer work work′ plan plan′ ensured)
-    (demand-3 Record blank k old new work plan client user attempts (number-is k old new answer work work′ plan plan′ ensured 0 z) read) in
+runs-by-answers k client old new bytes user attempts read r =
     record {
       steps = λ before after a e s q. subst⁻¹ (Follows _ (a .code)) (same-step s _ q) (r .steps before after a e);
       no-standstill = λ c q number yes.
@@ -55,9 +70,30 @@ entry-demand-3 k old new answer work work′ plan plan′ client user attempts e
       few-alone = r .few-alone;
     }
 
+pub entry-demand-3 : EntryDemand-3
+entry-demand-3 k old new answer work work′ plan plan′ client user attempts ensured z read =
+    runs-by-answers k client old new (take (answer .length) plan′) user attempts read
+    (subst (λ (b : List ℕ). Runs k (user .contract) (contractIn old) (contractIn new) b attempts)
+    (same-bytes k old new answer work work′ plan plan′ ensured)
+    (demand-3 Record blank k old new work plan client user attempts (number-is k old new answer work work′ plan plan′ ensured 0 z) read))
+
+pub entry-any-hand : EntryAnyHand
+entry-any-hand old new plan answer work work′ client user attempts ensured z read =
+    runs-by-answers (rankOf (readPlan plan)) client old new plan user attempts read
+    (any-hand Record blank old new plan work client user attempts (sym (check-number old new plan answer work work′ ensured) ∙ z) read)
+
+pub entry-ours-pass : EntryOursPass
+entry-ours-pass k old new answer checked work work′ records records′ plan plan′ ensured z enough again =
+    check-number old new (take (answer .length) plan′) checked records records′ again
+    ∙ ap (λ (b : List ℕ). checkPlanOf blank old new b records .answer .number)
+    (sym (same-bytes k old new answer work work′ plan plan′ ensured))
+    ∙ ours-pass Record Record blank blank k old new work plan records (number-is k old new answer work work′ plan plan′ ensured 0 z)
+    (subst (λ (n : ℕ). n ≤ length records) (same-states k old new answer work work′ plan plan′ ensured) enough)
+
 pub entry-refused-for-good : EntryRefusedForGood
 entry-refused-for-good k old new answer work work′ plan plan′ ensured z =
     refused-for-good Record blank k old new work plan (number-is k old new answer work work′ plan plan′ ensured 12 z)
 
 pub entry-converting : EntryConverting
-entry-converting choosing answer sheet sheet′ small ensured = subst⁻¹ (ConvertingSays choosing sheet) ensured (converting choosing sheet small)
+entry-converting choosing answer sheet sheet′ small ensured =
+    subst⁻¹ (ConvertingSays choosing sheet) ensured (converting choosing sheet small)

@@ -1,16 +1,16 @@
--- Demand 3, what a no means, and what converting says, in the words of the entry points' own contracts: what each ensures of its answer.
+-- Demand 3, what a no means, what a check of a plan says, and what converting says, in the words of the entry points' own contracts: what each ensures of its answer.
 -- Assumes nothing.
 use mathlib.Core.Path.{_≡_}
 use mathlib.Core.Bool.{true}
 use mathlib.Core.List.{List, _∷_, _++_}
 use Prim.Native.Nat.{ℕ, _*_, _≤_, _<_}
-use lib.ListN.{take}
+use lib.ListN.{length, take}
 use lib.Dec.{T}
 use Rattle.model.specs.Bytes.{byte}
 use Rattle.model.specs.Contract.{Contract, has}
 use Rattle.model.specs.Sheet.{Sheet, good, readSheet, contractIn}
 use Rattle.model.specs.Situation.{alike}
-use Rattle.model.specs.Plan.{rowsIn, stepOf}
+use Rattle.model.specs.Plan.{readPlan, rowsIn, stepOf}
 use Rattle.model.specs.Connect.{connectOf}
 use Rattle.model.specs.Client.{compliesOf}
 use Rattle.model.specs.Run.{begin, Attempt, rowAtRun, runFrom, mostAlone, Standstill}
@@ -25,6 +25,8 @@ use Rattle.table.specs.declared.Record.{Record}
 use Rattle.table.specs.Records.{blank}
 use Rattle.connect.specs.Answers.{answerOf}
 use Rattle.connect.specs.declared.Answer.{Answer}
+use Rattle.edits.specs.Check.{checkPlanOf}
+use Rattle.edits.specs.Promises.{rankOf}
 use Rattle.nodes.specs.declared.SheetAnswer as nodes
 use Rattle.choosing.specs.Convert.{convertInto}
 use Rattle.choosing.specs.Promises.{ConvertingSays}
@@ -59,6 +61,24 @@ EntryRefusedForGood =
     (k : ℕ) (old new : List ℕ) (answer : Answer) (work work′ : List Record) (plan plan′ : List ℕ)
     → record { answer = answerOf answer; plan = plan′; work = work′ } ≡ connectOf blank k old new work plan → answer .number ≡ 12
     → Defeats (alike k) (contractIn old) (contractIn new) (demanding (contractIn old))
+
+-- Whatever the check of a plan ensured of an accepting answer: the plan's runs do not hang, whoever wrote it.
+abbrev pub EntryAnyHand : Type 0
+EntryAnyHand =
+    (old new plan : List ℕ) (answer : Answer) (work work′ : List Record) (client : List ℕ) (user : Sheet) (attempts : List Attempt)
+    → record { answer = answerOf answer; work = work′ } ≡ checkPlanOf blank old new plan work → answer .number ≡ 0
+    → readSheet client ≡ good user
+    → RunsByAnswers (rankOf (readPlan plan)) client old (user .contract) (contractIn new) plan attempts
+
+-- Whatever connecting ensured of an accepting answer and of the lent plan, and the check of that plan with a record per plan state ensured of
+-- its answer: that answer is 0.
+abbrev pub EntryOursPass : Type 0
+EntryOursPass =
+    (k : ℕ) (old new : List ℕ) (answer checked : Answer) (work work′ records records′ : List Record) (plan plan′ : List ℕ)
+    → record { answer = answerOf answer; plan = plan′; work = work′ } ≡ connectOf blank k old new work plan → answer .number ≡ 0
+    → answer .states ≤ length records
+    → record { answer = answerOf checked; work = records′ } ≡ checkPlanOf blank old new (take (answer .length) plan′) records
+    → checked .number ≡ 0
 
 -- Whatever converting ensured of its answer and of the lent output says what it should of the choosing sheet's bytes.
 abbrev pub EntryConverting : Type 0

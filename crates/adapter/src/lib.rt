@@ -7,6 +7,8 @@ ghost use Rattle.plan.specs.Step.{steppedOf};
 ghost use Rattle.comply.specs.Answer.{complianceOf};
 ghost use Rattle.table.specs.Records.{blank};
 ghost use Rattle.connect.specs.Answers.{answerOf};
+ghost use Rattle.edits.specs.Check.{checkPlanOf, planFaultOf};
+ghost use Rattle.edits_walk.specs.Faults.{faultBy};
 ghost use Rattle.choosing.specs.Convert.{convertInto};
 ghost use Rattle.convert.specs.Answer.{writtenBy};
 use comply::Compliance;
@@ -41,6 +43,34 @@ pub extern "C" fn adapter_complies(client: &[u8], service: &[u8]) -> Compliance
     ensures { λ r. ⌜ r ≡ complianceOf (compliesOf (now (client .entry)) (now (service .entry))) ⌝ }
 {
     comply::complies(client, service)
+}
+
+// `check_plan::check_plan`.
+#[no_mangle]
+pub extern "C" fn adapter_check_plan(
+    old: &[u8],
+    new: &[u8],
+    plan: &[u8],
+    work: &mut [table::Record],
+) -> connect::Answer
+    ensures outcome { λ r. ⌜ record { answer = answerOf r; work = now (work .exit) }
+        ≡ checkPlanOf blank (now (old .entry)) (now (new .entry)) (now (plan .entry)) (now (work .entry)) ⌝ }
+{
+    check_plan::check_plan(old, new, plan, work)
+}
+
+// `check_plan::plan_fault`.
+#[no_mangle]
+pub extern "C" fn adapter_plan_fault(
+    old: &[u8],
+    new: &[u8],
+    plan: &[u8],
+    work: &mut [table::Record],
+) -> edits_walk::Fault
+    ensures outcome { λ r. ⌜ record { fault = faultBy r; work = now (work .exit) }
+        ≡ planFaultOf blank (now (old .entry)) (now (new .entry)) (now (plan .entry)) (now (work .entry)) ⌝ }
+{
+    check_plan::plan_fault(old, new, plan, work)
 }
 
 // `convert::convert`.

@@ -13,6 +13,7 @@ pub enum Kind {
     Clients,
     Runs,
     Choosing,
+    Edits,
 }
 
 fn answer(kind: Kind, case: &[u8]) {
@@ -23,6 +24,7 @@ fn answer(kind: Kind, case: &[u8]) {
         Kind::Clients => clients::answer(case),
         Kind::Runs => runs::answer(case),
         Kind::Choosing => choosing_sheets::answer(case),
+        Kind::Edits => lent::answer_plan(case),
     }
 }
 

@@ -10,13 +10,12 @@ use native.Mathlib.Omega.{arith}
 use lib.ListN.{length, length-append}
 use lib.Dec.{T, eqb, ltb, leb, ltb→lt, leb→le, eqb→eq, eqb-refl, nleb→lt, T-not, not-T}
 use borrow.Author.Tests.{eqb-true}
-use Rattle.model.specs.Lists.{any, keep}
+use Rattle.model.specs.Lists.{any, keep, Ascending}
 use Rattle.model.specs.Bytes.{byte, word, le16}
 use Rattle.model.specs.Contract.{actions, has, name}
 use Rattle.model.specs.Sheet.{Trailer, strayBit}
 use Rattle.model.proofs.Lists.{and-both, and-of, or-left, or-right, cond-some}
 use Rattle.model.proofs.Sheet.{Each, each-none, each-one-more, mask-named}
-use Rattle.nodes.specs.Nodes.{Ascending}
 use Rattle.nodes.specs.SheetBytes.{layoutRows, layoutIndex}
 use Rattle.nodes.proofs.Bytes.{At, at-cast, length-16}
 use Rattle.choosing.specs.Rows.{ChoosingRow, GroupFormed, RowFormed}

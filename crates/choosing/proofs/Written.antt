@@ -8,12 +8,11 @@ use Prim.Native.Nat.{ℕ, suc, _+_, _*_, _≤_, _<_}
 use native.Mathlib.Omega.{arith}
 use lib.ListN.{length, length-append}
 use borrow.Author.Tests.{le-leb, lt-ltb, eq-eqb}
-use Rattle.model.specs.Lists.{keep, upto}
+use Rattle.model.specs.Lists.{keep, upto, Ascending}
 use Rattle.model.specs.Bytes.{byte, word, le16}
 use Rattle.model.specs.Contract.{actions, has}
 use Rattle.model.specs.Sheet.{good, check, then, Trailer}
 use Rattle.model.proofs.Lists.{keep-length}
-use Rattle.nodes.specs.Nodes.{Ascending}
 use Rattle.nodes.specs.SheetBytes.{layoutRows, layoutIndex, layout}
 use Rattle.nodes.proofs.Bytes.{At, at-left, at-right, at-head, at-tail, at-cast, at-word, length-16}
 use Rattle.nodes.proofs.Parts.{length-layout, rows-at, index-at, trailer-is}

@@ -6,9 +6,8 @@ use mathlib.Core.List.{List, [], _∷_, List·Memᴰ}
 use Prim.Native.Nat.{ℕ, _≤_, _<_}
 use lib.ListN.{length, getD}
 use lib.Dec.{T, ltb}
-use Rattle.model.specs.Lists.{keep}
+use Rattle.model.specs.Lists.{keep, Ascending}
 use Rattle.model.specs.Contract.{actions, has, name}
-use Rattle.nodes.specs.Nodes.{Ascending}
 
 -- "each either hiding (1 to 8 internal moves) or open (per offered action 1 to 8 successors; an open row with none is the end)": the rows
 -- that internal moves lead to, or a mask of actions and, "per action ascending", the rows that it leads to

@@ -3,7 +3,7 @@ pub mod Replacing
 pub mod Leads
 pub mod RowsOf
 pub mod Summing
-pub mod Ordered
+pub mod Sorted
 pub mod Masks
 pub mod Writing
 pub mod Meeting

@@ -26,7 +26,7 @@ pub struct Answer {
 }
 
 // A refusal before situations are counted, or for their number: the counts are 0 0 0.
-fn refusal(number: u8, sheet: u8, state: u8) -> Answer
+pub fn refusal(number: u8, sheet: u8, state: u8) -> Answer
     ensures { λ r. ⌜ answerOf r ≡ refusing number sheet state ⌝ }
 {
     Answer {
@@ -57,7 +57,7 @@ fn with_counts(number: u8, situations: usize, states: u16, rounds: u16, length: 
 }
 
 // How many situations can be counted in so many records.
-fn limit_of(records: usize) -> usize
+pub fn limit_of(records: usize) -> usize
     ensures { λ r. ⌜ r ≡ limitOf records ⌝ }
 {
     if records < keys::MOST {

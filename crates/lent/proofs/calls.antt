@@ -3,4 +3,7 @@ pub mod ConnectLent
 pub mod Counted
 pub mod LeftCountRecords
 pub mod LeftFoundWith
+pub mod PlansCheckLent
+pub mod PlansFaultCounted
+pub mod PlansFaultLent
 pub mod RecordBefore

@@ -1,2 +1,3 @@
+pub mod Checks
 pub mod Counts
 pub mod Gives

@@ -1,8 +1,9 @@
 // Pairs connected with records and plan bytes lent, and what the call left of them, for the test program pair_cases. A case is the number
 // of lent records (16 bits), that of lent plan bytes (16 bits), and the connecting program's input: k, the first sheet behind its length,
 // and the second. Its line: number, sheet, state; situations, plan states, rounds; plan length; digest of the lent plan; lent records that
-// are zero, and lent records that are as they were.
+// are zero, and lent records that are as they were. The module plans has the like for edit_cases.
 mod left;
+mod plans;
 
 ghost use mathlib.Core.Path.{_≡_};
 ghost use Prim.Native.Nat.{_≤_};
@@ -136,4 +137,9 @@ pub fn answer(case: &[u8]) {
     let room = little_endian::word_at(case, 2) as usize;
     let end = framing::part_end(case, 5);
     lend(case[4], &case[7..end], &case[end..], count, room);
+}
+
+// Prints the line of a case of a plan.
+pub fn answer_plan(case: &[u8]) {
+    plans::answer(case);
 }

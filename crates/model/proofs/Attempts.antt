@@ -1,16 +1,17 @@
 -- What an attempt does, whatever the rows: a move is by a choice, has what its code needs, and is in the row; then the run goes on by it.
 -- By the tests of an attempt and by the kinds of codes.
 -- Assumes nothing.
-use mathlib.Core.Path.{_≡_, refl, ap, subst, _∙_}
+use mathlib.Core.Path.{_≡_, refl, ap, subst, subst⁻¹, _∙_}
 use mathlib.Core.Bool.{Bool, true, false, cond, _&&_}
-use mathlib.Core.Option.{none, some}
+use mathlib.Core.Option.{Option, none, some}
 use mathlib.Core.List.{List, [], _∷_, _++_, List·Memᴰ}
 use Prim.Native.Nat.{ℕ, _+_, _-_, _≤_, _<_}
 use native.Mathlib.Omega.{arith}
+use lib.ListN.{length, getD}
 use lib.Dec.{T, leb}
 use borrow.Author.Tests.{leb-true}
 use Rattle.model.specs.Contract.{Contract, partner, has, state}
-use Rattle.model.specs.Situation.{Kind, straight, client, service, stray, kindOf, codes}
+use Rattle.model.specs.Situation.{Kind, straight, client, service, stray, kindOf, codes, newAfter}
 use Rattle.model.specs.Test.{listed}
 use Rattle.model.specs.Plan.{Move, held}
 use Rattle.model.specs.Run.{Run, Attempt, need, rowAtRun, choice, moveTo, moved, movedIf, attempted, runFrom}
@@ -105,6 +106,15 @@ module _ (user new : Contract) (rows : List (List Move)) where
   moved-plan r (service j) R S to n = refl
   moved-plan r stray R S to n = absurd n
 
+  -- the service goes on as its contract says
+  pub moved-service : (r : Run) (kind : Kind) (to : ℕ)
+      → moved user new rows r kind to .service ≡ newAfter (r .service) (state new (r .service)) kind
+  unfolding moved newAfter
+  moved-service r (straight j) to = refl
+  moved-service r (client j) to = refl
+  moved-service r (service j) to = refl
+  moved-service r stray to = refl
+
   -- ---- a list of attempts
 
   -- the run after a list and one attempt more that is a move
@@ -114,3 +124,21 @@ module _ (user new : Contract) (rows : List (List Move)) where
   unfolding runFrom attempted movedIf
   run-move [] r a to e = ap (movedIf user new rows r (kindOf (a .code))) e
   run-move (b ∷ before) r a to e = run-move before (attempted user new rows r b) a to e
+
+  -- where next states of held moves are states of the plan, the run's plan state stays one
+  module _ (inside : (i code to : ℕ) → held (getD rows i []) code ≡ some to → to < length rows) where
+    attempted-below : (r : Run) (a : Attempt) → r .plan < length rows → attempted user new rows r a .plan < length rows
+    unfolding attempted movedIf rowAtRun
+    attempted-below r a h = go (moveTo user new rows r a) refl
+      where
+        go : (o : Option ℕ) → moveTo user new rows r a ≡ o → movedIf user new rows r (kindOf (a .code)) o .plan < length rows
+        go none e = h
+        go (some to) e =
+            let m = is-move r a to e in
+            subst⁻¹ (λ (i : ℕ). i < length rows) (moved-plan r (kindOf (a .code)) (a .R) (a .S) to (m .needed))
+            (inside (r .plan) (a .code) to (m .holds))
+
+    pub run-below : (attempts : List Attempt) (r : Run) → r .plan < length rows → runFrom user new rows r attempts .plan < length rows
+    unfolding runFrom
+    run-below [] r h = h
+    run-below (a ∷ attempts) r h = run-below attempts (attempted user new rows r a) (attempted-below r a h)

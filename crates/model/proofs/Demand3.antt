@@ -1,203 +1,123 @@
--- Demand 3: acceptance gives two well-formed contracts and a plan whose bytes read back as its rows, so what holds of a run over
--- the rows holds of the bytes.
+-- Demand 3: acceptance gives situations that are kept and a plan whose states stand for them, so what holds of runs over rows that stand
+-- for situations holds of the plan's bytes.
 -- Assumes nothing.
-use mathlib.Core.Path.{_≡_, refl, sym, ap, subst⁻¹, _∙_}
-use mathlib.Core.Option.{some}
-use mathlib.Core.List.{List, [], List·Memᴰ}
-use Prim.Native.Nat.{ℕ, _*_, _≤_, _<_}
-use native.Mathlib.Omega.{arith}
-use lib.ListN.{length}
-use lib.Dec.{T}
-use borrow.Author.Tests.{lt-ltb}
-use Rattle.model.specs.Contract.{Contract, has}
-use Rattle.model.specs.Sheet.{plain, Both, contractIn}
+use mathlib.Core.Path.{_≡_, subst, subst⁻¹}
+use mathlib.Core.Option.{Option, some}
+use mathlib.Core.List.{List, List·Memᴰ}
+use Prim.Native.Nat.{ℕ, _≤_}
+use lib.ListN.{length, getElem?}
+use Rattle.model.specs.Contract.{Contract}
+use Rattle.model.specs.Sheet.{contractIn}
 use Rattle.model.specs.Situation.{Situation, start, alike, same, codes, next}
 use Rattle.model.specs.Test.{test}
 use Rattle.model.specs.Search.{searchFrom}
-use Rattle.model.specs.Plan.{Move, held, planStates, planBytes, readPlan, rowsIn, stepRow, stepIn, stepOf}
-use Rattle.model.specs.Connect.{Outcome, refused, counted, settledOf, rowsFor, connected, limitOf, outcomeOf, connectOf}
-use Rattle.model.specs.Client.{Complies}
-use Rattle.model.specs.Run.{Run, begin, Attempt, rowAtRun, runFrom, mostAlone, Standstill}
+use Rattle.model.specs.Plan.{Move, held, planStates, planRows, rowsIn}
+use Rattle.model.specs.Connect.{settledOf, rowsFor, limitOf, connectOf}
+use Rattle.model.specs.Run.{Attempt}
 use Rattle.model.specs.History.{history, bufferFrom}
-use Rattle.model.specs.Demands.{emittedPlan, Admitted, IsReached, number, Follows, Runs, Demand-3}
-use Rattle.model.proofs.Rounds.{Closed, settled-closed, settled-from}
+use Rattle.model.specs.Demands.{emittedPlan, Runs, Demand-3}
+use Rattle.model.proofs.Rounds.{Step, Closed, moves-intro, settled-closed}
 use Rattle.model.proofs.Situation.{is-same}
 use Rattle.model.proofs.Test.{PassesAt, is-test}
-use Rattle.model.proofs.Weak.{is-reached, rank-reached}
-use Rattle.model.proofs.Sheet.{WellFormed, both-well-formed, both-contracts}
-use Rattle.model.proofs.PlanRows.{mem-at}
-use Rattle.model.proofs.Bound.{allowed-alike}
-use Rattle.model.proofs.Run.{Tied, tied-begin, tied-run, history-allowed, no-standstill, few-alone}
-use Rattle.model.proofs.Connect.{Shape, cut-off, removed, too-long, fits, shape, emitted-reads, emitted-rows, rows-states}
-use Rattle.model.proofs.Demand2.{limit-few, answer-admitted, admitted-outcome, emitted-is}
+use Rattle.model.proofs.PlanRows.{at-mem, row-elim, row-intro, row-at, state-kept, start-first}
+use Rattle.model.proofs.Upheld.{HeldAt, StandFor}
+use Rattle.model.proofs.PlanRuns.{stand-runs, stand-allowed}
+use Rattle.model.proofs.Accepted.{keptOf, planOf, Accepted, accepted-formed, accepted-reads, over-bytes}
+use Rattle.model.proofs.Demand2.{limit-few}
 
--- what the rounds keep of a search, and the plan of that
-abbrev keptOf : (k limit : ℕ) → (σ τ : Contract) → List Situation
-keptOf k limit σ τ = settledOf k σ τ (searchFrom same codes (next (alike k) σ τ) limit start .done) .kept
+-- ---- the states of a plan of kept situations stand for them
 
-abbrev planOf : (k limit : ℕ) → (σ τ : Contract) → List ℕ
-planOf k limit σ τ = planBytes (σ .n) k (rowsFor k σ τ (keptOf k limit σ τ))
+module _ (limits : List ℕ) (old new : Contract) (kept : List Situation) (begun : List·Memᴰ start kept)
+    (closed : Closed codes (next limits old new) (PassesAt old new) (λ (s : Situation). List·Memᴰ s kept)) where
+  abbrev nx : Situation → ℕ → Option Situation
+  nx = next limits old new
 
--- what acceptance gives
-record Accepted (k limit room : ℕ) (old new : List ℕ) : Type 0 where
-  sheets : Both
-  admitted : Admitted k old new sheets
-  whole : searchFrom same codes (next (alike k) (sheets .one) (sheets .two)) limit start .todo ≡ []
-  begun : List·Memᴰ start (keptOf k limit (sheets .one) (sheets .two))
-  situations : ℕ
-  states : ℕ
-  rounds : ℕ
-  emits : connected k (sheets .one) (sheets .two) limit room ≡ counted 0 situations states rounds (planOf k limit (sheets .one) (sheets .two))
+  abbrev states : List Situation
+  states = planStates same codes nx kept start
 
-accepted-shape : (k limit room : ℕ) (old new : List ℕ) (sheets : Both) → Admitted k old new sheets → connected k (sheets .one) (sheets .two) limit room .answer .number ≡ 0
-    → Shape k (sheets .one) (sheets .two) limit room → Accepted k limit room old new
-unfolding refused counted plain
-accepted-shape k limit room old new sheets a z (cut-off n e) = absurd (omega (arith, ap (λ (o : Outcome). o .answer .number) e))
-accepted-shape k limit room old new sheets a z (removed w n e) = absurd (omega (arith, ap (λ (o : Outcome). o .answer .number) e))
-accepted-shape k limit room old new sheets a z (too-long w m l e) = absurd (omega (arith, ap (λ (o : Outcome). o .answer .number) e))
-accepted-shape k limit room old new sheets a z (fits w m l e) =
-    record { sheets = sheets; admitted = a; whole = w; begun = m; situations = _; states = _; rounds = _; emits = e }
+  abbrev rows : List (List Move)
+  rows = planRows same codes nx kept start
 
-accepted : (records room k : ℕ) (old new : List ℕ) → outcomeOf records room k old new .answer .number ≡ 0 → Accepted k (limitOf records) room old new
-accepted records room k old new z =
-    let a = answer-admitted records room k old new (λ l h. absurd (omega (arith, z, l))) in
-    let sheets = a .0 in
-    accepted-shape k (limitOf records) room old new sheets (a .1)
-    (ap (λ (o : Outcome). o .answer .number) (sym (admitted-outcome records room k old new sheets (a .1))) ∙ z)
-    (shape k (sheets .one) (sheets .two) (limitOf records) room)
+  -- the codes of a relation's set have their moves in the row
+  acts-held : (i : ℕ) (s : Situation) → getElem? states i ≡ some s
+      → (st : Step codes nx (PassesAt old new) (λ (s : Situation). List·Memᴰ s kept) s) → (code : ℕ) → st .acts code → HeldAt rows i code
+  acts-held i s e st code a =
+      let x = st .leads code a in
+      let m = moves-intro same is-same codes nx kept s code (x .0) (st .known code a) (x .1) (x .2) in
+      let w = row-intro same is-same codes nx kept start begun s code m in
+      (w .0, subst⁻¹ (λ (row : List Move). held row code ≡ some (w .0)) (row-at same is-same codes nx kept start begun i s e) (w .1))
 
-module _ (k limit : ℕ) (limit-ok : limit ≤ 4096) (room : ℕ) (old new : List ℕ) (c : Accepted k limit room old new) (user : Contract)
-    (attempts : List Attempt) where
+  -- where what is kept is closed, plan state i stands for situation i of the plan's states
+  pub kept-stand : StandFor limits old new rows (λ i s. getElem? states i ≡ some s)
+  kept-stand =
+      record {
+        begins = start-first same is-same codes nx kept start begun;
+        goes-on = λ i s e R S code to m n h.
+            let h′ = subst (λ (row : List Move). held row code ≡ some to) (row-at same is-same codes nx kept start begun i s e) h in
+            let t = row-elim same is-same codes nx kept start begun s code to (at-mem states i s e) h′ .1 in
+            (t .0, t .1, t .3);
+        passes = λ i s e.
+            let st = closed s (state-kept same is-same codes nx kept start begun s (at-mem states i s e)) in
+            is-test old new .grows (st .acts) (HeldAt rows i) s (acts-held i s e st) (st .passes);
+      }
+
+-- ---- the plan of an acceptance
+
+module _ (k limit room : ℕ) (old new : List ℕ) (c : Accepted k limit room old new) where
   abbrev σ : Contract
   σ = c .sheets .one
 
   abbrev τ : Contract
   τ = c .sheets .two
 
-  abbrev reachedAll : List Situation
-  reachedAll = searchFrom same codes (next (alike k) σ τ) limit start .done
-
   abbrev kept : List Situation
   kept = keptOf k limit σ τ
 
-  abbrev rows : List (List Move)
-  rows = rowsFor k σ τ kept
+  -- plan state i is the place of the situation
+  abbrev pub Place : ℕ → Situation → Type 0
+  Place i s = getElem? (planStates same codes (next (alike k) σ τ) kept start) i ≡ some s
 
-  abbrev bytes : List ℕ
-  bytes = planOf k limit σ τ
+  pub accepted-stand : StandFor (alike k) σ τ (rowsFor k σ τ kept) Place
+  unfolding rowsFor settledOf
+  accepted-stand =
+      let nx : Situation → ℕ → Option Situation = next (alike k) σ τ in
+      kept-stand (alike k) σ τ kept (c .begun)
+      (settled-closed same is-same codes nx (test σ τ) (PassesAt σ τ) (is-test σ τ) (searchFrom same codes nx limit start .done))
 
-  formed : WellFormed σ × WellFormed τ × (σ .n ≡ τ .n)
-  formed = both-well-formed 0 0 old new (c .sheets) (c .admitted .reads)
+  module _ (limit-ok : limit ≤ 4096) (user : Contract) (attempts : List Attempt) where
+    accepted-runs : Runs k user σ τ (planOf k limit σ τ) attempts
+    accepted-runs =
+        stand-runs (planOf k limit σ τ) _ (accepted-reads k limit room old new c limit-ok) k σ τ Place accepted-stand
+        (accepted-formed k limit room old new c .1) user attempts
 
-  reads-back : readPlan bytes ≡ some (record { n = σ .n; k = k; rows = rows })
-  reads-back = emitted-reads k σ τ limit (c .whole) (c .begun) (formed .0) (formed .1) (formed .2) (c .admitted .rank) limit-ok
-
-  rows-back : rowsIn bytes ≡ rows
-  rows-back = emitted-rows k σ τ limit (c .whole) (c .begun) (formed .0) (formed .1) (formed .2) (c .admitted .rank) limit-ok
-
-  kept-reached : (s : Situation) → List·Memᴰ s kept → IsReached k σ τ s
-  unfolding settledOf
-  kept-reached s m = is-reached (alike k) σ τ limit (c .whole) s (settled-from same is-same codes (next (alike k) σ τ) (test σ τ) reachedAll s m)
-
-  kept-closed : Closed codes (next (alike k) σ τ) (PassesAt σ τ) (λ (s : Situation). List·Memᴰ s kept)
-  unfolding settledOf
-  kept-closed = settled-closed same is-same codes (next (alike k) σ τ) (test σ τ) (PassesAt σ τ) (is-test σ τ) reachedAll
-
-  abbrev runOver : List (List Move) → List Attempt → Run
-  runOver rs l = runFrom user τ rs begin l
-
-  tied : (l : List Attempt) → Tied (alike k) user σ τ kept (c .begun) (runOver rows l)
-  unfolding rowsFor
-  tied l = tied-run (alike k) user σ τ kept (c .begun) l begin (tied-begin (alike k) user σ τ kept (c .begun))
-
-  -- stepping the emitted bytes at the run's plan state follows the row
-  step-is : (l : List Attempt) (code : ℕ) → stepOf bytes (runOver rows l .plan) code ≡ stepRow (held (rowAtRun user τ rows (runOver rows l)) code)
-  unfolding stepOf stepIn rowAtRun
-  step-is l code =
-      let d = tied l in
-      let below : runOver rows l .plan < length rows =
-      omega (
-        arith,
-        mem-at (planStates same codes (next (alike k) σ τ) kept start) (runOver rows l .plan) (d .at) (d .here),
-        rows-states k σ τ limit (c .whole) (c .begun) (formed .0) (formed .1) (formed .2) (c .admitted .rank) limit-ok,
-      ) in
-      rw (reads-back, lt-ltb (runOver rows l .plan) (length rows) below) refl
-
-  step-follows : (l : List Attempt) (code : ℕ) → Follows (rowAtRun user τ rows (runOver rows l)) code (stepOf bytes (runOver rows l .plan) code)
-  unfolding stepRow
-  step-follows l code =
-      record {
-        goes = λ to e. step-is l code ∙ ap stepRow e;
-        stays = λ e. step-is l code ∙ ap stepRow e;
-      }
-
-  run-stands : Complies user σ → (R S : ℕ) → Standstill user τ rows (runOver rows attempts) R S → T (has R 14)
-  unfolding rowsFor
-  run-stands complies =
-      no-standstill (alike k) user σ τ kept (c .begun) kept-closed complies (runOver rows attempts) (tied attempts)
-
-  run-alone : mostAlone user τ rows attempts ≤ 2 * k * τ .n
-  unfolding rowsFor
-  run-alone =
-      rw (← allowed-alike (τ .n) k (formed .1 .few-names))
-      (few-alone (alike k) user σ τ kept (c .begun) (τ .n) (formed .1 .few-names)
-      (λ s m. rank-reached (alike k) σ τ (kept-reached s m)) (formed .1 .named) attempts)
-
-  runs : Runs k user σ τ bytes attempts
-  runs =
-      record {
-        steps = λ before after a e.
-            subst⁻¹ (λ (rs : List (List Move)). Follows (rowAtRun user τ rs (runOver rs before)) (a .code) (stepOf bytes (runOver rs before .plan) (a .code)))
-            rows-back (step-follows before (a .code));
-        no-standstill = λ complies R S.
-            subst⁻¹ (λ (rs : List (List Move)). Standstill user τ rs (runOver rs attempts) R S → T (has R 14)) rows-back (run-stands complies R S);
-        few-alone = subst⁻¹ (λ (rs : List (List Move)). mostAlone user τ rs attempts ≤ 2 * k * τ .n) rows-back run-alone;
-      }
-
-  -- the buffer allows every move of the run
-  allowed-all : (b : List ℕ) × (bufferFrom (alike k) (start .buffer) (history user τ (rowsIn bytes) attempts) ≡ some b)
-  unfolding rowsFor
-  allowed-all =
-      subst⁻¹ (λ (rs : List (List Move)). (b : List ℕ) × (bufferFrom (alike k) (start .buffer) (history user τ rs attempts) ≡ some b)) rows-back
-      (history-allowed (alike k) user σ τ kept (c .begun) attempts)
+    accepted-allowed : (b : List ℕ)
+        × (bufferFrom (alike k) (start .buffer) (history user τ (rowsIn (planOf k limit σ τ)) attempts) ≡ some b)
+    accepted-allowed =
+        stand-allowed (planOf k limit σ τ) _ (accepted-reads k limit room old new c limit-ok) k σ τ Place accepted-stand user attempts
 
 -- ---- over connecting's outcome
 
 module _ {R : Type 0} (blank : R) (k : ℕ) (old new : List ℕ) (work : List R) (plan : List ℕ)
     (z : connectOf blank k old new work plan .answer .number ≡ 0) where
-  abbrev written : List ℕ
-  written = emittedPlan (connectOf blank k old new work plan)
-
   abbrev limit : ℕ
   limit = limitOf (length work)
 
-  acceptance : Accepted k limit (length plan) old new
-  unfolding connectOf
-  acceptance = accepted (length work) (length plan) k old new z
-
-  -- what holds of the two contracts and the plan that acceptance gives holds of the bytes passed and written
-  over-bytes : (P : Contract → Contract → List ℕ → Type 0)
-      → ((c : Accepted k limit (length plan) old new) → P (c .sheets .one) (c .sheets .two) (planOf k limit (c .sheets .one) (c .sheets .two)))
-      → P (contractIn old) (contractIn new) written
-  over-bytes P f =
-      let c = acceptance in
-      let are = both-contracts 0 0 old new (c .sheets) (c .admitted .reads) in
-      let emits = emitted-is blank k old new (c .sheets) work (c .admitted) plan (c .situations) (c .states) (c .rounds) (c .emits) in
-      subst⁻¹ (λ (o : Contract). P o (contractIn new) written) (are .0)
-      (subst⁻¹ (λ (n : Contract). P (c .sheets .one) n written) (are .1) (subst⁻¹ (P (c .sheets .one) (c .sheets .two)) emits (f c)))
+  abbrev written : List ℕ
+  written = emittedPlan (connectOf blank k old new work plan)
 
   -- runs of the written plan, whatever contract the client has
   pub emitted-runs : (user : Contract) (attempts : List Attempt) → Runs k user (contractIn old) (contractIn new) written attempts
   emitted-runs user attempts =
-      over-bytes (λ o n b. Runs k user o n b attempts)
-      (λ c. runs k limit (limit-few (length work)) (length plan) old new c user attempts)
+      over-bytes blank k old new work plan z (λ o n b. Runs k user o n b attempts)
+      (λ c. accepted-runs k limit (length plan) old new c (limit-few (length work)) user attempts)
 
   -- and their buffer allows every move
   pub emitted-allowed : (user : Contract) (attempts : List Attempt)
       → (b : List ℕ) × (bufferFrom (alike k) (start .buffer) (history user (contractIn new) (rowsIn written) attempts) ≡ some b)
   emitted-allowed user attempts =
-      over-bytes (λ o n b. (l : List ℕ) × (bufferFrom (alike k) (start .buffer) (history user n (rowsIn b) attempts) ≡ some l))
-      (λ c. allowed-all k limit (limit-few (length work)) (length plan) old new c user attempts)
+      over-bytes blank k old new work plan z
+      (λ o n b. (l : List ℕ) × (bufferFrom (alike k) (start .buffer) (history user n (rowsIn b) attempts) ≡ some l))
+      (λ c. accepted-allowed k limit (length plan) old new c (limit-few (length work)) user attempts)
 
 pub demand-3 : Demand-3
 demand-3 R blank k old new work plan client user attempts z read = emitted-runs blank k old new work plan z (user .contract) attempts

@@ -1,7 +1,7 @@
 -- A plan reads back as it was written.
 -- Assumes nothing.
 use mathlib.Core.Path.{_≡_, refl, sym, ap, subst, _∙_}
-use mathlib.Core.Bool.{_&&_}
+use mathlib.Core.Bool.{Bool, _&&_}
 use mathlib.Core.List.{List, [], _∷_, _++_, List·Memᴰ, List·Memᴰ·head, List·Memᴰ·tail}
 use mathlib.Core.Option.{none, some}
 use Prim.Native.Nat.{ℕ, suc, _+_, _-_, _*_, _/_, _%_, _≤_, _<_}
@@ -82,14 +82,16 @@ back-moves b i (m ∷ ms) h f =
     λ z. record { code = c z; to = w z } ∷ r z
 
 -- rows
-module _ (b : List ℕ) (index count n : ℕ) (small : index < 4294967296) (few : count ≤ 4096) where
-  good-to : (ms : List Move) → T (goodRow n count ms) → (m : Move) → List·Memᴰ m ms → m .to < 65536
-  unfolding goodRow
-  good-to ms g m q =
-      let a = and-both (leb (length ms) 42 && ascending ms) (all (λ m. namedBelow n (kindOf (m .code)) && ltb (m .to) count) ms) g .1 in
-      let c = and-both (namedBelow n (kindOf (m .code))) (ltb (m .to) count) (all-elim (λ m. namedBelow n (kindOf (m .code)) && ltb (m .to) count) q a) .1 in
-      omega (arith, ltb→lt (m .to) count c)
 
+-- the next state of a move of a good row is below the count
+pub good-below : (n count : ℕ) (row : List Move) → T (goodRow n count row) → (m : Move) → List·Memᴰ m row → m .to < count
+unfolding goodRow
+good-below n count row g m q =
+    let good : Move → Bool = (λ m. namedBelow n (kindOf (m .code)) && ltb (m .to) count) in
+    let each = and-both (leb (length row) 42 && ascending row) (all good row) g .1 in
+    ltb→lt (m .to) count (and-both (namedBelow n (kindOf (m .code))) (ltb (m .to) count) (all-elim good q each) .1)
+
+module _ (b : List ℕ) (index count n : ℕ) (small : index < 4294967296) (few : count ≤ 4096) where
   back-rows : (rs : List (List Move)) (p i : ℕ) → ((r : List Move) → List·Memᴰ r rs → T (goodRow n count r))
       → At b i (rowsBytes rs) → At b (index + 4 * p) (indexBytes i rs) → i + length (rowsBytes rs) ≡ index
       → readRows b index count n (length rs) p i ≡ some rs
@@ -100,7 +102,7 @@ module _ (b : List ℕ) (index count n : ℕ) (small : index < 4294967296) (few 
       let hd : byte b i ≡ length r = at-head b i (length r) (moveBytes r) hr in
       let len : length (length r ∷ moveBytes r) ≡ 1 + 3 * length r = omega (arith, length-moves r) in
       let tot : i + (1 + 3 * length r + length (rowsBytes rs)) ≡ index = omega (arith, length-append (length r ∷ moveBytes r) (rowsBytes rs)) in
-      let ms : readMoves b (i + 1) (length r) ≡ r = back-moves b (i + 1) r (at-tail b i (length r) (moveBytes r) hr) (good-to r (g r (List·Memᴰ·head refl))) in
+      let ms : readMoves b (i + 1) (length r) ≡ r = back-moves b (i + 1) r (at-tail b i (length r) (moveBytes r) hr) (λ m q. omega (arith, good-below n count r (g r (List·Memᴰ·head refl)) m q)) in
       let dw : dword b (index + 4 * p) ≡ i = at-dword b (index + 4 * p) i (at-left b (index + 4 * p) (le32 i) (indexBytes (i + length (length r ∷ moveBytes r)) rs) x) (omega arith) in
       let ih : readRows b index count n (length rs) (suc p) (i + 1 + 3 * length r) ≡ some rs =
       back-rows rs (suc p) (i + 1 + 3 * length r) (λ y q. g y (List·Memᴰ·tail q))

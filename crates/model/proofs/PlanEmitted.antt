@@ -2,69 +2,33 @@
 -- Assumes nothing.
 use mathlib.Core.Path.{_≡_, refl, ap, subst, subst⁻¹}
 use mathlib.Core.Bool.{Bool, true, false, cond, _&&_}
-use mathlib.Core.Logic.{_⊎_, ⊎-elim}
 use mathlib.Core.Option.{Option, some}
-use mathlib.Core.List.{List, [], _∷_, map, List·Memᴰ, List·Memᴰ·head, List·Memᴰ·tail, List·Memᴰ·cases-cons, List·Memᴰ·not-nil, Memᴰ·of-map}
+use mathlib.Core.List.{List, [], _∷_, map, List·Memᴰ, List·Memᴰ·head, List·Memᴰ·tail, Memᴰ·of-map}
 use Prim.Native.Nat.{ℕ, zero, suc, _+_, _-_, _<_}
 use native.Mathlib.Omega.{arith}
 use lib.ListN.{length, length-map}
-use lib.Dec.{T, ltb, leb, lt→ltb, ltb→lt, le→leb}
-use Rattle.model.specs.Lists.{keep, place, all, upto}
+use lib.Dec.{T, ltb, leb, lt→ltb, le→leb}
+use Rattle.model.specs.Lists.{place, all, upto, Ascending}
 use Rattle.model.specs.Contract.{Contract, name, actions, state, offers}
 use Rattle.model.specs.Situation.{Situation, Kind, straight, client, service, kindOf, start, same, codes, offered, next}
 use Rattle.model.specs.Rounds.{stays, movesInto}
 use Rattle.model.specs.Plan.{Move, planStates, target, rowOf, namedBelow, ascending, goodRow}
-use Rattle.model.proofs.Lists.{keep-elim, keep-length, all-intro, and-of, and-both}
+use Rattle.model.proofs.Lists.{keep-length, all-intro, and-of, and-both}
 use Rattle.model.proofs.Rounds.{IsSame, moves-elim}
 use Rattle.model.proofs.Situation.{is-same, code-elim, kind-straight, kind-client, kind-service, next-elim}
 use Rattle.model.proofs.Sheet.{WellFormed}
+use Rattle.model.proofs.Ordered.{keep-ascends, codes-ascend}
 use Rattle.model.proofs.PlanRows.{state-closed}
 
 -- ---- ascending codes
 
-abbrev Rising : List ℕ → Type 0
-Rising [] = Unit {0}
-Rising (x ∷ xs) = ((y : ℕ) → List·Memᴰ y xs → x < y) × Rising xs
-
--- a test for it
-above : ℕ → List ℕ → Bool
-above x [] = true
-above x (y ∷ ys) = ltb x y && above x ys
-
-rises : List ℕ → Bool
-rises [] = true
-rises (x ∷ xs) = above x xs && rises xs
-
-above-elim : (x : ℕ) (l : List ℕ) → T (above x l) → (y : ℕ) → List·Memᴰ y l → x < y
-unfolding above
-above-elim x [] t y m = absurd (List·Memᴰ·not-nil m)
-above-elim x (z ∷ l) t y m =
-    let w = and-both (ltb x z) (above x l) t in
-    ⊎-elim (λ (e : y ≡ z). omega (arith, ltb→lt x z (w .0))) (λ q. above-elim x l (w .1) y q) (List·Memᴰ·cases-cons m)
-
-rises-elim : (l : List ℕ) → T (rises l) → Rising l
-unfolding rises
-rises-elim [] t = tt
-rises-elim (x ∷ l) t = let w = and-both (above x l) (rises l) t in (above-elim x l (w .0), rises-elim l (w .1))
-
-codes-rise : Rising codes
-codes-rise = rises-elim codes (unfold rises above codes actions upto in tt)
-
-rising-keep : (p : ℕ → Bool) (l : List ℕ) → Rising l → Rising (keep p l)
-unfolding keep
-rising-keep p [] r = tt
-rising-keep p (x ∷ l) r = go (p x) (rising-keep p l (r .1))
-  where
-    go : (b : Bool) → Rising (keep p l) → Rising (cond b (x ∷ keep p l) (keep p l))
-    go true h = ((λ y m. r .0 y (keep-elim p y l m .0)), h)
-    go false h = h
-
-rising-ascending : (f : ℕ → ℕ) (l : List ℕ) → Rising l → T (ascending (map (λ c. record { code = c; to = f c }) l))
+codes-of-row : (f : ℕ → ℕ) (low : ℕ) (l : List ℕ) → Ascending low l → T (ascending (map (λ c. record { code = c; to = f c }) l))
 unfolding ascending
-rising-ascending f [] r = tt
-rising-ascending f (x ∷ []) r = tt
-rising-ascending f (x ∷ y ∷ l) r =
-    and-of (ltb x y) (ascending (map (λ c. record { code = c; to = f c }) (y ∷ l))) (lt→ltb x y (r .0 y (List·Memᴰ·head refl))) (rising-ascending f (y ∷ l) (r .1))
+codes-of-row f low [] r = tt
+codes-of-row f low (x ∷ []) r = tt
+codes-of-row f low (x ∷ y ∷ l) r =
+    and-of (ltb x y) (ascending (map (λ c. record { code = c; to = f c }) (y ∷ l))) (lt→ltb x y (omega (arith, r .1 .0)))
+    (codes-of-row f (suc x) (y ∷ l) (r .1))
 
 pub place-lt : {S : Type 0} (same : S → S → Bool) (isSame : IsSame same) {t : S} {l : List S} → List·Memᴰ t l → place (same t) l < length l
 unfolding place
@@ -137,6 +101,6 @@ module _ (limits : List ℕ) (old new : Contract) (n : ℕ) (old-formed : WellFo
         and-of (leb (length row) 42 && ascending row) (all goodMove row)
         (and-of (leb (length row) 42) (ascending row)
         (le→leb (length row) 42 (omega (arith, length-map cs (to-move (to s)), keep-length stay codes, count-codes)))
-        (rising-ascending (to s) cs (rising-keep stay codes codes-rise)))
+        (codes-of-row (to s) 0 cs (keep-ascends stay 0 codes codes-ascend)))
         (all-intro goodMove row
         (λ x q. let c = Memᴰ·of-map (to-move (to s)) cs q in subst (λ (x : Move). T (goodMove x)) (c .2) (good-move s m (c .0) (c .1))))

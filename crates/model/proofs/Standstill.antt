@@ -1,13 +1,13 @@
--- A standstill is decided: of the choices of a run's states, those under which no move of the row has its need met. A code that a
--- row holds is that of one of its moves, and the code of each of its moves is held.
+-- A standstill is decided: of the choices of a run's states, those under which no move of the row has its need met. For a row holds
+-- exactly the codes of its moves.
 -- Assumes nothing.
-use mathlib.Core.Path.{_≡_, refl, sym, ap, subst, subst⁻¹}
-use mathlib.Core.Bool.{Bool, true, false, cond, not}
+use mathlib.Core.Path.{_≡_, sym, ap, subst⁻¹}
+use mathlib.Core.Bool.{Bool, true, false, not}
 use mathlib.Core.Logic.{_↔_}
-use mathlib.Core.Option.{some, Option·none-ne-some}
-use mathlib.Core.List.{List, [], _∷_, List·Memᴰ, List·Memᴰ·head, List·Memᴰ·tail, Memᴰ·cast}
+use mathlib.Core.Option.{some}
+use mathlib.Core.List.{List, List·Memᴰ, Memᴰ·cast}
 use Prim.Native.Nat.{ℕ}
-use lib.Dec.{T, eqb, eqb→eq, eqb-refl}
+use lib.Dec.{T}
 use Rattle.model.specs.Lists.{all, keep, combine}
 use Rattle.model.specs.Contract.{Contract, state}
 use Rattle.model.specs.Situation.{kindOf}
@@ -15,6 +15,7 @@ use Rattle.model.specs.Plan.{Move, held}
 use Rattle.model.specs.Run.{Run, need, rowAtRun, Standstill}
 use Rattle.model.specs.RunCases.{Choice}
 use Rattle.model.proofs.Lists.{all-elim, all-intro, keep-intro, keep-elim, combine-intro, combine-elim}
+use Rattle.model.proofs.Held.{move-of, code-held}
 use Rattle.model.proofs.Attempts.{choice-intro, choice-elim}
 
 -- ---- tests
@@ -26,31 +27,6 @@ not-elim false t s = s
 not-intro : (b : Bool) → (T b → ⊥) → T (not b)
 not-intro true f = f tt
 not-intro false f = tt
-
--- ---- codes of a row
-
-move-of : (row : List Move) (code to : ℕ) → held row code ≡ some to → (m : Move) × List·Memᴰ m row × (m .code ≡ code)
-unfolding held
-move-of [] code to e = absurd (Option·none-ne-some to e)
-move-of (m ∷ row) code to e = go (eqb (m .code) code) (eqb→eq (m .code) code) (move-of row code to) e
-  where
-    go : (t : Bool) → (T t → m .code ≡ code) → (held row code ≡ some to → (l : Move) × List·Memᴰ l row × (l .code ≡ code))
-        → cond t (some (m .to)) (held row code) ≡ some to → (l : Move) × List·Memᴰ l (m ∷ row) × (l .code ≡ code)
-    go true q below e = (m, List·Memᴰ·head refl, q tt)
-    go false q below e = let w = below e in (w .0, List·Memᴰ·tail (w .1), w .2)
-
-code-held : (row : List Move) (m : Move) → List·Memᴰ m row → (to : ℕ) × (held row (m .code) ≡ some to)
-unfolding held
-code-held (l ∷ row) m (List·Memᴰ·head e) = go (eqb (l .code) (m .code)) (subst (λ (x : Move). T (eqb (x .code) (m .code))) e (eqb-refl (m .code)))
-  where
-    go : (t : Bool) → T t → (to : ℕ) × (cond t (some (l .to)) (held row (m .code)) ≡ some to)
-    go true s = (l .to, refl)
-    go false s = absurd s
-code-held (l ∷ row) m (List·Memᴰ·tail d) = go (eqb (l .code) (m .code)) (code-held row m d)
-  where
-    go : (t : Bool) → (to : ℕ) × (held row (m .code) ≡ some to) → (to : ℕ) × (cond t (some (l .to)) (held row (m .code)) ≡ some to)
-    go true w = (l .to, refl)
-    go false w = w
 
 -- ---- choices
 

@@ -70,20 +70,31 @@ passes-grows p q A B f h S m =
 abbrev pub PassesAt : Contract → Contract → (ℕ → Type 0) → Situation → Type 0
 PassesAt old new A s = Passes (state old (s .old)) (state new (s .new)) A
 
+-- a ready set S is answered exactly if condition (1) holds of it, `ready` being the old state's ready sets
+pub answered-elim : (ready A : List ℕ) (S : ℕ) → T (answered ready A S)
+    → ((R : ℕ) × List·Memᴰ R ready × Covered (λ c. List·Memᴰ c A) S R) ⊎ Hope (λ c. List·Memᴰ c A) S
+unfolding answered
+answered-elim ready A S t =
+    ⊎-elim (λ q. let w = any-elim (covers A S) ready q in inl (w .0, w .1, covers-elim A S (w .0) (w .2)))
+    (λ q. inr (hope-elim A S q))
+    (or-cases (any (covers A S) ready) (hope A S) t)
+
+pub answered-intro : (ready A : List ℕ) (S : ℕ) → ((R : ℕ) × List·Memᴰ R ready × Covered (λ c. List·Memᴰ c A) S R) ⊎ Hope (λ c. List·Memᴰ c A) S
+    → T (answered ready A S)
+unfolding answered
+answered-intro ready A S (inl w) =
+    or-left (any (covers A S) ready) (hope A S) (any-intro (covers A S) (w .1) (covers-intro A S (w .0) (w .2)))
+answered-intro ready A S (inr w) = or-right (any (covers A S) ready) (hope A S) (hope-intro A S w)
+
 pub is-test : (old new : Contract) → IsTest (test old new) (PassesAt old new)
-unfolding test answered
+unfolding test
 is-test old new =
     record {
       sound = λ A s t S m.
-          let rs = state old (s .old) .ready in
-          ⊎-elim (λ q. let w = any-elim (covers A S) rs q in inl (w .0, w .1, covers-elim A S (w .0) (w .2)))
-          (λ q. inr (hope-elim A S q))
-          (or-cases (any (covers A S) rs) (hope A S) (all-elim (answered rs A) m t));
+          let ready = state old (s .old) .ready in
+          answered-elim ready A S (all-elim (answered ready A) m t);
       complete = λ A s f.
-          let rs = state old (s .old) .ready in
-          all-intro (answered rs A) (state new (s .new) .ready)
-          (λ S m.
-          ⊎-elim (λ w. or-left (any (covers A S) rs) (hope A S) (any-intro (covers A S) (w .1) (covers-intro A S (w .0) (w .2))))
-          (λ w. or-right (any (covers A S) rs) (hope A S) (hope-intro A S w)) (f S m));
+          let ready = state old (s .old) .ready in
+          all-intro (answered ready A) (state new (s .new) .ready) (λ S m. answered-intro ready A S (f S m));
       grows = λ A B s f h. passes-grows (state old (s .old)) (state new (s .new)) A B f h;
     }

@@ -3,7 +3,7 @@
 use mathlib.Core.Bool.{Bool, true, false, _&&_, _||_, cond}
 use mathlib.Core.List.{List, [], _∷_, _++_, map, List·Memᴰ}
 use mathlib.Core.Option.{Option, some, bind}
-use Prim.Native.Nat.{ℕ, zero, suc}
+use Prim.Native.Nat.{ℕ, zero, suc, _≤_}
 
 module _ {A : Type 0} where
   -- some element passes
@@ -47,3 +47,8 @@ through step x (label ∷ labels) = bind (step x label) (λ y. through step y la
 unfoldable pub upto : ℕ → ℕ → List ℕ
 upto first zero = []
 upto first (suc count) = first ∷ upto (suc first) count
+
+-- numbers strictly ascending, the first of them not below `low`
+abbrev pub Ascending : ℕ → List ℕ → Type 0
+Ascending low [] = Unit {0}
+Ascending low (x ∷ xs) = (low ≤ x) × Ascending (suc x) xs

@@ -6,11 +6,10 @@ use mathlib.Core.Bool.{false}
 use mathlib.Core.List.{List, [], _∷_, _++_, List·Memᴰ}
 use Prim.Native.Nat.{ℕ, _+_, _≤_, _<_}
 use lib.ListN.{length}
-use Rattle.model.specs.Lists.{keep}
+use Rattle.model.specs.Lists.{keep, Ascending}
 use Rattle.model.specs.Bytes.{le16}
 use Rattle.model.specs.Contract.{State, actions, offersIn}
 use Rattle.model.specs.Sheet.{strayBit}
-use Rattle.nodes.specs.Nodes.{Ascending}
 
 -- ---- whatever a row is: "Rows, index and trailer lie as in a sheet", request 1/13 of a choosing sheet
 

@@ -4,7 +4,6 @@ pub mod FieldsNumbered
 pub mod FieldsRowLength
 pub mod NumberAddLinked
 pub mod NumberLookAt
-pub mod NumberNarrow
 pub mod NumberStates
 pub mod PlanLength
 pub mod WriteOffsetOf

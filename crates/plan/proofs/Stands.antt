@@ -3,7 +3,7 @@
 use mathlib.Core.Path.{_≡_, refl, sym, ap, subst, _∙_}
 use mathlib.Core.Bool.{true, false, cond}
 use mathlib.Core.List.{List, [], _∷_}
-use mathlib.Core.Option.{some}
+use mathlib.Core.Option.{Option, none, some}
 use Prim.Native.Nat.{ℕ, zero, suc, _+_, _-_, _*_, _<_, _≤_}
 use native.Mathlib.Omega.{arith}
 use native.Mathlib.Nat.{zero-add}
@@ -13,6 +13,8 @@ use borrow.Author.Tests.{lt-ltb, le-ltb}
 use Rattle.model.specs.Bytes.{byte, word, dword}
 use Rattle.model.specs.Plan.{Move, Plan, held, readMoves, readRows, readWith, readPlan, rowsOf, rowsIn, stepRow, stepIn, stepOf}
 use Rattle.model.proofs.Lists.{is-true, cond-some}
+use Rattle.plan.specs.declared.Row.{Row}
+use Rattle.plan.specs.Rows.{RowOf}
 use Rattle.plan.specs.Layout.{isSome, goodPlace}
 use Rattle.plan.proofs.Answers.{is-some-elim, is-some-not, map-elim}
 use Rattle.plan.proofs.Places.{place-within}
@@ -101,6 +103,24 @@ stands b e =
       row = λ p h. rw (r .1) (rw zero-add at (rows .row p h));
     }
 
+-- the plan that was read with the numbers of a trailer
+plan-with : (b : List ℕ) (index count n k : ℕ) {p : Plan} → readWith b index count n k ≡ some p
+    → readWith b index count n k ≡ some (record { n = n; k = k; rows = p .rows })
+unfolding readWith
+plan-with b index count n k {p} e =
+    let w = cond-some (test b index count n k) _ _ e in
+    let m = map-elim _ (readRows b index count n count 0 0) (w .1) in
+    e ∙ ap some (sym (m .2) ∙ ap (λ (p : Plan). record { n = n; k = k; rows = p .rows }) (m .2))
+
+-- n and k stand at its end
+pub figures-read : (b : List ℕ) → isSome (readPlan b) ≡ true
+    → readPlan b ≡ some (record { n = byte b (length b - 2); k = byte b (length b - 1); rows = rowsIn b })
+unfolding readPlan rowsIn rowsOf
+figures-read b e =
+    let r = is-some-elim (readPlan b) e in
+    plan-with b (indexOf b) (countOf b) (byte b (length b - 2)) (byte b (length b - 1)) (r .1)
+    ∙ ap (λ (o : Option Plan). some (record { n = byte b (length b - 2); k = byte b (length b - 1); rows = rowsOf o })) (sym (r .1))
+
 -- ---- stepping
 
 -- the step in bytes that are a plan, and in others
@@ -113,27 +133,49 @@ pub step-no-plan : (b : List ℕ) (p code : ℕ) → isSome (readPlan b) ≡ fal
 unfolding stepOf stepIn
 step-no-plan b p code e = rw (is-some-not (readPlan b) e)
 
+pub step-no-state : (b : List ℕ) → isSome (readPlan b) ≡ true → (count p code : ℕ) → count ≡ word b (length b - 4) → count ≤ p
+    → record { number = 15; state = 0 } ≡ stepOf b p code
+step-no-state b plan count p code c h =
+    sym (step-rows b p code plan ∙ rw (stands b plan .size, le-ltb p (countOf b) (omega arith)))
+
+pub step-state : (b : List ℕ) (p code : ℕ) → isSome (readPlan b) ≡ true → p < length (rowsIn b) → {row : Row} → RowOf b p row
+    → stepRow (held (readMoves b (row .first) (row .size)) code) ≡ stepOf b p code
+step-state b p code plan h stands =
+    ap (λ (moves : List Move). stepRow (held moves code)) (stands .moves) ∙ sym (step-rows b p code plan ∙ rw (lt-ltb p (length
+    (rowsIn b)) h))
+
+-- ---- the row of a state
+
+-- bytes that have a row are a plan
+pub has-rows : (b : List ℕ) {p : ℕ} → p < length (rowsIn b) → isSome (readPlan b) ≡ true
+unfolding rowsIn rowsOf isSome
+has-rows b {p} h = go (readPlan b) h
+  where
+    go : (o : Option Plan) → p < length (rowsOf o) → isSome o ≡ true
+    go none l = absurd (omega arith)
+    go (some plan) l = refl
+
 -- by numbers that were read from the bytes
-module _ (b : List ℕ) (plan : isSome (readPlan b) ≡ true) (count p : ℕ) (c : count ≡ word b (length b - 4)) where
+module _ (b : List ℕ) (p : ℕ) (h : p < length (rowsIn b)) where
   s : PlanStands b
-  s = stands b plan
+  s = stands b (has-rows b h)
 
-  pub step-no-state : (code : ℕ) → count ≤ p → record { number = 15; state = 0 } ≡ stepOf b p code
-  step-no-state code h = sym (step-rows b p code plan ∙ rw (s .size, le-ltb p (countOf b) (omega arith)))
+  state : p < countOf b
+  state = omega (arith, s .size)
 
-  module _ (h : p < count) (index : ℕ) (i : index ≡ dword b (length b - 8)) where
+  pub trailer-fits : 8 ≤ length b
+  trailer-fits = omega (arith, s .room)
+
+  module _ (index : ℕ) (i : index ≡ dword b (length b - 8)) where
     pub entry-fits : index + 4 * p + 4 ≤ length b
-    entry-fits = omega (arith, s .room)
+    entry-fits = omega (arith, s .room, state)
 
     module _ (row : ℕ) (r : row ≡ dword b (index + 4 * p)) where
-      state : p < countOf b
-      state = omega arith
-
       row-is : row ≡ rowPlace b p
       row-is = r ∙ ap (λ (x : ℕ). dword b (x + 4 * p)) i
 
       pub row-fits : row + 1 + 3 * byte b row ≤ length b
       row-fits = rw row-is (omega (arith, s .within p state, s .room))
 
-      pub step-state : (code : ℕ) → stepRow (held (readMoves b (row + 1) (byte b row)) code) ≡ stepOf b p code
-      step-state code = rw row-is (sym (step-rows b p code plan ∙ rw (s .size, lt-ltb p (countOf b) state, s .row p state)))
+      pub row-stands : RowOf b p (record { first = row + 1; size = byte b row })
+      row-stands = record { within = row-fits; moves = rw row-is (sym (s .row p state)) }

@@ -1,2 +1,3 @@
 pub mod Layout
+pub mod Rows
 pub mod Step

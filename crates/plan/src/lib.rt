@@ -1,11 +1,15 @@
 // Plans as bytes. Document 01, "Which pairs connect" and "The client check and the run".
-mod read;
+pub mod read;
 pub mod write;
 
 ghost use mathlib.Core.Path.{_≡_};
-ghost use Prim.Native.Nat.{_+_, _*_, _≤_};
+ghost use mathlib.Core.Bool.{true};
+ghost use mathlib.Core.Option.{some};
+ghost use Prim.Native.Nat.{_+_, _*_, _≤_, _<_};
 ghost use lib.ListN.{length};
-ghost use Rattle.model.specs.Plan.{held, readMoves, stepRow, stepOf};
+ghost use Rattle.model.specs.Plan.{held, readMoves, readPlan, rowsIn, stepRow, stepOf};
+ghost use Rattle.plan.specs.Layout.{isSome};
+ghost use Rattle.plan.specs.Rows.{RowOf};
 ghost use Rattle.plan.specs.Step.{steppedOf};
 use little_endian::dword_at;
 use little_endian::word_at;
@@ -41,23 +45,57 @@ fn step_row(plan: &[u8], first: usize, size: usize, code: u8) -> Stepped
     }
 }
 
+// Where the moves of a row stand: the first of them, and how many there are.
+pub struct Row {
+    pub first: usize,
+    pub size: usize,
+}
+
+// The row of a state of a plan.
+pub fn row_of(plan: &[u8], state: u16) -> Row
+    requires { ⌜ state < length (rowsIn (now plan)) ⌝ }
+    ensures { λ r. ⌜ RowOf (now (plan .entry)) state r ⌝ }
+{
+    let index = dword_at(plan, plan.len() - 8) as usize;
+    let row = dword_at(plan, index + 4 * (state as usize)) as usize;
+    Row {
+        first: row + 1,
+        size: plan[row] as usize,
+    }
+}
+
+// The names and the rank that a plan is over.
+pub struct Figures {
+    pub n: u8,
+    pub k: u8,
+}
+
+// Those of a plan.
+pub fn figures_of(plan: &[u8]) -> Figures
+    requires { ⌜ isSome (readPlan (now plan)) ≡ true ⌝ }
+    ensures { λ r. ⌜ readPlan (now (plan .entry)) ≡ some (record { n = r .n; k = r .k; rows = rowsIn (now (plan .entry)) }) ⌝ }
+{
+    let end = plan.len();
+    Figures {
+        n: plan[end - 2],
+        k: plan[end - 1],
+    }
+}
+
 // The step by a code from a state of a plan. Bytes that are no plan give 14, a number that is no state of the plan
 // gives 15, a code that the state's row does not hold 16.
 pub fn step(plan: &[u8], state: u16, code: u8) -> Stepped
     ensures { λ r. ⌜ r ≡ steppedOf (stepOf (now (plan .entry)) state code) ⌝ }
 {
     if read::is_plan(plan) {
-        let end = plan.len();
-        if word_at(plan, end - 4) <= state {
+        if word_at(plan, plan.len() - 4) <= state {
             return Stepped {
                 number: 15,
                 state: 0,
             };
         }
-        let index = dword_at(plan, end - 8) as usize;
-        let row = dword_at(plan, index + 4 * (state as usize)) as usize;
-        let size = plan[row] as usize;
-        return step_row(plan, row + 1, size, code);
+        let row = row_of(plan, state);
+        return step_row(plan, row.first, row.size, code);
     }
     Stepped {
         number: 14,

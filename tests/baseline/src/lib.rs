@@ -1,11 +1,13 @@
-//! Document 01's connecting, stepping and client check, and the conversion of choosing sheets (document 02, request
-//! 1/13), written from the documents and for speed: a third implementation, beside the crates and the reference
-//! program. It shares nothing with them. The benchmark compares the crates with it, then measures them against it.
+//! Document 01's connecting, stepping and client check, and from document 02 the conversion of choosing sheets (request
+//! 1/13) and the check of edited plans (3/13), written from the documents and for speed: a third implementation, beside
+//! the crates and the reference program. It shares nothing with them. The benchmark compares the crates with it, then
+//! measures them against it.
 #![forbid(unsafe_code)]
 
 mod choosing;
 mod client;
 mod connect;
+mod edits;
 mod index;
 mod numbering;
 mod plan;
@@ -17,6 +19,7 @@ mod situation;
 pub use choosing::convert;
 pub use client::complies;
 pub use connect::Workspace;
+pub use edits::{Checker, Fault};
 pub use plan::step;
 
 /// The length of the longest sheet.
@@ -29,7 +32,7 @@ pub const MOST_SITUATIONS: usize = 4096;
 pub const LONGEST_PLAN: usize = MOST_SITUATIONS * (1 + 42 * 3) + 4 * MOST_SITUATIONS + 8;
 
 /// What connecting answers: 0 or the refusal's number, the sheet and the state that it carries, the counts, and
-/// the plan's length.
+/// the plan's length. The check of a plan answers no counts and no length.
 #[derive(Clone, Copy, Debug, Default, PartialEq, Eq)]
 pub struct Answer {
     pub number: u8,

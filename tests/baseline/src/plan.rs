@@ -88,27 +88,50 @@ impl Rows {
     }
 }
 
+/// The moves of a row's bytes: code and next state.
 #[inline]
-fn moves_in(row: &[u8]) -> impl Iterator<Item = (u8, u16)> + '_ {
+pub fn moves_in(row: &[u8]) -> impl Iterator<Item = (u8, u16)> + '_ {
     row.chunks_exact(3).map(|made| (made[0], u16::from_le_bytes([made[1], made[2]])))
+}
+
+/// A plan that was read: its rows and its index, its names and its rank.
+#[derive(Clone, Copy)]
+pub struct Read<'a> {
+    rows: &'a [u8],
+    index: &'a [u8],
+    pub n: u8,
+    pub k: u8,
+}
+
+impl<'a> Read<'a> {
+    pub fn count(&self) -> usize {
+        self.index.len() / 4
+    }
+
+    /// The bytes of a row's moves.
+    #[inline]
+    pub fn row(&self, state: usize) -> &'a [u8] {
+        let start = dword(&self.index[4 * state..]) as usize;
+        &self.rows[start + 1..start + 1 + 3 * self.rows[start] as usize]
+    }
 }
 
 /// Steps a plan: 0 and the next state, or refusal 14, 15 or 16 and 0.
 pub fn step(plan: &[u8], state: u16, code: u8) -> (u8, u16) {
-    let Some((rows, index)) = read(plan) else {
+    let Some(plan) = read(plan, |_, _| {}) else {
         return (14, 0);
     };
-    if state as usize >= index.len() / 4 {
+    if state as usize >= plan.count() {
         return (15, 0);
     }
-    let start = dword(&index[4 * state as usize..]) as usize;
-    let row = &rows[start + 1..start + 1 + 3 * rows[start] as usize];
-    let held = moves_in(row).find(|made| made.0 == code);
+    let held = moves_in(plan.row(state.into())).find(|made| made.0 == code);
     held.map_or((16, 0), |made| (0, made.1))
 }
 
-/// The rows and the index of a plan, or nothing if it breaks the layout.
-fn read(plan: &[u8]) -> Option<(&[u8], &[u8])> {
+/// The plan of these bytes, or nothing if they break the layout. Calls `each` with every state and the mask of its codes,
+/// as long as the layout holds.
+#[inline]
+pub fn read(plan: &[u8], mut each: impl FnMut(usize, u64)) -> Option<Read<'_>> {
     let (body, trailer) = plan.split_at_checked(plan.len().checked_sub(TRAILER)?)?;
     let rows = dword(trailer) as usize;
     let count = u16::from_le_bytes([trailer[4], trailer[5]]);
@@ -120,7 +143,7 @@ fn read(plan: &[u8]) -> Option<(&[u8], &[u8])> {
     let (rows, index) = body.split_at(rows);
     let named = codes(n);
     let mut at = 0;
-    for entry in index.chunks_exact(4) {
+    for (state, entry) in index.chunks_exact(4).enumerate() {
         if dword(entry) as usize != at {
             return None;
         }
@@ -129,16 +152,18 @@ fn read(plan: &[u8]) -> Option<(&[u8], &[u8])> {
             return None;
         }
         let end = at + 1 + 3 * moves;
-        let mut left = named;
+        let mut held = 0;
         for (code, next) in moves_in(rows.get(at + 1..end)?) {
-            if code > 63 || left >> code & 1 == 0 || next >= count {
+            let bit = 1 << (code & 63);
+            if code > 63 || named & bit == 0 || bit <= held || next >= count {
                 return None;
             }
-            left &= u64::MAX << code << 1;
+            held |= bit;
         }
+        each(state, held);
         at = end;
     }
-    (at == rows.len()).then_some((rows, index))
+    (at == rows.len()).then_some(Read { rows, index, n, k })
 }
 
 /// The codes with a name below n.

@@ -1,6 +1,6 @@
-//! M1 to M13, M1's bytes, and the edges that document 01 names; and those of choosing sheets.
+//! M1 to M13, M1's bytes, and the edges that document 01 names; and those of choosing sheets and of edited plans.
 
-use baseline::{complies, convert, step, Answer, Workspace, LONGEST_PLAN};
+use baseline::{complies, convert, step, Answer, Checker, Fault, Workspace, LONGEST_PLAN};
 
 const A: u16 = 1 << 0;
 const B: u16 = 1 << 1;
@@ -280,4 +280,99 @@ fn circles_then_states_then_ready_sets() {
     assert_eq!(number_of(&crowded(6, 9)), 20);
     assert_eq!(number_of(&crowded(7, 9)), 19);
     assert_eq!(number_of(&[letters(7), vec![end(), moves(&[8])]].concat()), 18);
+}
+
+/// A plan of these rows, each of codes and next states.
+fn plan(n: u8, k: u8, rows: &[&[(u8, u16)]]) -> Vec<u8> {
+    let (mut bytes, mut index) = (Vec::new(), Vec::new());
+    for row in rows {
+        index.extend((bytes.len() as u32).to_le_bytes());
+        bytes.push(row.len() as u8);
+        bytes.extend(row.iter().flat_map(|(code, next)| [*code, *next as u8, (next >> 8) as u8]));
+    }
+    let offset = (bytes.len() as u32).to_le_bytes();
+    bytes.extend(index);
+    bytes.extend(offset);
+    bytes.extend((rows.len() as u16).to_le_bytes());
+    bytes.extend([n, k]);
+    bytes
+}
+
+/// The number of the check, and what is at fault, which is nothing unless the number is 21.
+fn checked(old: &[u8], new: &[u8], plan: &[u8], records: usize) -> (u8, Fault) {
+    let mut checker = Checker::new();
+    let answer = checker.check(old, new, plan, records);
+    let fault = checker.fault(old, new, plan, records);
+    assert_eq!(answer, Answer { number: answer.number, sheet: answer.sheet, state: answer.state, ..Answer::default() });
+    assert_eq!(answer.number == 21, fault != Fault::default());
+    (answer.number, fault)
+}
+
+/// Each of M1 to M13 that connects, with a record for each plan state, and with one less.
+#[test]
+fn emitted_plans_are_accepted() {
+    for case in CASES.iter().filter(|case| case.number == 0) {
+        let (old, new) = (sheet(case.n, 0, case.old), sheet(case.n, 0, case.new));
+        let mut plan = vec![0; LONGEST_PLAN];
+        let answer = connect(case.k, &old, &new, 1024, &mut plan);
+        plan.truncate(answer.length as usize);
+        let states = usize::from(answer.states);
+        assert_eq!(checked(&old, &new, &plan, states).0, 0, "{}", case.name);
+        assert_eq!(checked(&old, &new, &plan, states - 1).0, 11, "{}", case.name);
+    }
+}
+
+/// M8's plan with a move struck out, redirected, and put in.
+#[test]
+fn m8_edited() {
+    let case = &CASES[7];
+    let (old, new) = (sheet(2, 0, case.old), sheet(2, 0, case.new));
+    let number = |rows: &[&[(u8, u16)]]| checked(&old, &new, &plan(2, 1, rows), 100);
+    let fault = |condition, code, ready, state| Fault { condition, code, ready, state, ..Fault::default() };
+    assert_eq!(number(&[&[(0, 1), (16, 2)], &[], &[(32, 1)]]).0, 0);
+    assert_eq!(number(&[&[(16, 2)], &[], &[(32, 1)]]).0, 0);
+    assert_eq!(number(&[&[(0, 1)], &[], &[(32, 1)]]), (21, fault(3, 0, B, 0)));
+    assert_eq!(number(&[&[(0, 1), (16, 2), (17, 1)], &[], &[(32, 1)]]), (21, fault(2, 17, 0, 0)));
+    assert_eq!(number(&[&[(0, 1), (16, 2), (17, 1), (32, 1)], &[], &[(32, 1)]]), (21, fault(1, 32, 0, 0)));
+    let mut counts = [0; 14];
+    counts[0] = 1;
+    let behind = Fault { counts, old_state: 1, ..fault(1, 16, 0, 2) };
+    assert_eq!(number(&[&[(0, 1), (16, 2)], &[], &[(16, 1), (32, 1)]]), (21, behind));
+}
+
+/// Too many pairs come before an unsound one, wherever it is; and refusals in their order.
+#[test]
+fn refusals_of_the_check() {
+    let [old, new, good] = M1;
+    let unsound = plan(2, 0, &[&[(0, 1), (32, 1)], &[]]);
+    for (records, number) in [(0, 11), (1, 11), (2, 21), (5000, 21)] {
+        assert_eq!(checked(old, new, &unsound, records).0, number);
+    }
+    let (other_names, no_plan) = (plan(3, 0, &[&[(0, 1)], &[]]), plan(3, 4, &[&[]]));
+    assert_eq!(checked(old, new, &other_names, 9).0, 9);
+    assert_eq!(checked(old, new, &no_plan, 9).0, 14);
+    assert_eq!(checked(old, &sheet(3, 0, &[END]), &no_plan, 9).0, 9);
+    assert_eq!(checked(old, &sheet(3, 1, &[END]), &no_plan, 9).0, 8);
+    assert_eq!(checked(&[], &[], &[], 0).0, 1);
+    assert_eq!(checked(old, new, good, 2).0, 0);
+}
+
+/// Two wheels of 64 states of which every state meets every other: 4,096 pairs with one plan state, 4,097 if the start
+/// has a row of its own.
+#[test]
+fn as_many_pairs_as_there_may_be() {
+    let both: &[u16] = &[A | B];
+    let wheel = |first: u8, second: u8| {
+        let after: Vec<[u8; 2]> = (0..64).map(|at| [(at + first) % 64, (at + second) % 64]).collect();
+        let states: Vec<State> = after.iter().map(|after| (both, &after[..])).collect();
+        sheet(2, 0, &states)
+    };
+    let (old, new) = (wheel(1, 0), wheel(0, 1));
+    let one = plan(2, 0, &[&[(0, 0), (1, 0)]]);
+    let two = plan(2, 0, &[&[(0, 1), (1, 1)], &[(0, 1), (1, 1)]]);
+    for (plan, records, number) in
+        [(&one, 4095, 11), (&one, 4096, 0), (&one, 5000, 0), (&two, 4096, 11), (&two, 5000, 11)]
+    {
+        assert_eq!(checked(&old, &new, plan, records).0, number);
+    }
 }

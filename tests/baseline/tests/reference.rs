@@ -1,8 +1,8 @@
 //! Agreement with the reference program on the data that is stored for the test programs sheet_cases, pair_cases,
-//! step_cases, client_cases and choosing_cases. tests/reference/README.md says how the records and the lines are laid
-//! out.
+//! step_cases, client_cases, choosing_cases and edit_cases. tests/reference/README.md says how the records and the lines
+//! are laid out.
 
-use baseline::{complies, convert, step, Workspace};
+use baseline::{complies, convert, step, Checker, Workspace};
 use std::path::Path;
 
 /// The stored input of a test program and what it is to print.
@@ -94,5 +94,25 @@ fn choosing_sheets() {
         let (number, length) = convert(&record[2..], &mut sheet);
         let answer = [number.into(), 0, 0, length.into()];
         answer.into_iter().chain(sheet.into_iter().map(u64::from)).collect()
+    });
+}
+
+/// The figures about lent records, which the baseline keeps to itself, are what the number says: all zero, or all as
+/// they were.
+#[test]
+fn edited_plans() {
+    let mut checker = Checker::new();
+    agree("edit_cases", 0, |record| {
+        let records = word(record, 0);
+        let behind = 4 + word(record, 2);
+        let (old, new) = (&record[4..behind], &record[behind + 2..]);
+        let (new, plan) = new.split_at(word(record, behind));
+        let answer = checker.check(old, new, plan, records);
+        let fault = checker.fault(old, new, plan, records);
+        let lent = if matches!(answer.number, 1..=9 | 14) { [0, records as u64] } else { [records as u64, 0] };
+        let head: [u64; 3] = [answer.number.into(), answer.sheet.into(), answer.state.into()];
+        let wrong: [u64; 4] = [fault.condition.into(), fault.code.into(), fault.ready.into(), fault.state.into()];
+        let states: [u64; 2] = [fault.old_state.into(), fault.new_state.into()];
+        [&head[..], &lent, &wrong, &fault.counts.map(u64::from), &states, &lent].concat()
     });
 }

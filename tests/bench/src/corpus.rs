@@ -1,4 +1,4 @@
-//! The files of inputs that corpus.py writes, with choosing_corpus.py.
+//! The files of inputs that corpus.py writes, with choosing_corpus.py and plans_corpus.py.
 
 use crate::connector::Call;
 use std::path::Path;
@@ -16,6 +16,14 @@ impl Input {
     pub fn call(&self) -> Call<'_> {
         Call { k: self.k, old: &self.old, new: &self.new, records: self.records }
     }
+}
+
+/// A plan to be checked.
+pub struct Check {
+    pub old: Vec<u8>,
+    pub new: Vec<u8>,
+    pub plan: Vec<u8>,
+    pub records: usize,
 }
 
 /// A choosing sheet to be converted.
@@ -53,6 +61,11 @@ impl Rest<'_> {
         Choosing { name, bytes: self.measured(2), room }
     }
 
+    fn check(&mut self) -> Check {
+        let (records, old, new) = (self.number(2), self.measured(2), self.measured(2));
+        Check { old, new, plan: self.measured(4), records }
+    }
+
     fn input(&mut self) -> Input {
         let name = self.name();
         let (records, room, k) = (self.number(2), self.number(4), self.number(1) as u8);
@@ -73,6 +86,10 @@ fn records<T>(path: &Path, record: fn(&mut Rest) -> T) -> Vec<T> {
 
 pub fn read(path: &Path) -> Vec<Input> {
     records(path, |rest| rest.input())
+}
+
+pub fn checks(path: &Path) -> Vec<Check> {
+    records(path, |rest| rest.check())
 }
 
 pub fn choosing(path: &Path) -> Vec<Choosing> {

@@ -1,9 +1,11 @@
 //! `bench FOLDER` compares the connectors on all inputs of the folder, then times them on the benchmark's; the same for
-//! the conversion of choosing sheets. `bench FOLDER describe` says what the benchmark's inputs are.
+//! the conversion of choosing sheets and for the check of plans. `bench FOLDER describe` says what the benchmark's inputs
+//! are.
 
 mod choosing;
 mod connector;
 mod corpus;
+mod plans;
 mod product;
 mod timing;
 
@@ -109,18 +111,24 @@ fn main() {
     let answers = compared(&mut connectors, &inputs);
     let [choosing, random_choosing] = ["choosing", "random-choosing"].map(|name| corpus::choosing(&folder.join(name)));
     let converted = choosing::compared(&choosing);
+    let checked = plans::emitted(&corpus::read(&folder.join("plans")));
     if arguments.get(1).is_some_and(|word| word == "describe") {
         println!("{:34} {FIGURES}", "input");
         for (input, answer) in inputs.iter().zip(&answers) {
             println!("{:34} {}", input.name, figures(answer));
         }
         choosing::describe(&choosing, &converted);
+        plans::describe(&checked);
         return;
     }
     compared(&mut connectors, &random);
     println!("compared: {} inputs, {} random pairs", inputs.len(), random.len());
     choosing::compared(&random_choosing);
     println!("compared: {} choosing sheets, {} random ones", choosing.len(), random_choosing.len());
+    let random_plans = corpus::checks(&folder.join("random-plans"));
+    plans::compared(&random_plans);
+    println!("compared: {} plans, {} random ones", checked.len(), random_plans.len());
     timed(&mut connectors, &inputs, &answers);
     choosing::timed(&choosing, &converted);
+    plans::timed(&checked);
 }

@@ -8,6 +8,7 @@ pub enum Call {
     Step(Step),
     Complies(Complies),
     FromChoosing(FromChoosing),
+    CheckPlan(CheckPlan),
 }
 
 /// With `null`, slices without elements pass as null pointers. With `small`, the lent records hold small numbers.
@@ -44,11 +45,30 @@ pub struct FromChoosing {
     pub null: bool,
 }
 
+/// The check of a plan, and what is at fault in it: both are called, one after the other, each with a table filled anew.
+#[derive(Clone, Debug, Default, PartialEq, Eq)]
+pub struct CheckPlan {
+    pub old: Vec<u8>,
+    pub new: Vec<u8>,
+    pub plan: Vec<u8>,
+    pub records: usize,
+    pub null: bool,
+    pub small: bool,
+}
+
 impl Connect {
     /// A call with so many records and plan bytes lent.
     pub fn new(chance: &mut Chance, k: u8, old: Vec<u8>, new: Vec<u8>, records: usize, room: usize) -> Connect {
         let kind = chance.below(4);
         Connect { k, old, new, records, room, null: kind < 2, small: kind % 2 == 1 }
+    }
+}
+
+impl CheckPlan {
+    /// The call with these sheets and this plan, and so many records lent.
+    pub fn new(chance: &mut Chance, old: Vec<u8>, new: Vec<u8>, plan: Vec<u8>, records: usize) -> CheckPlan {
+        let kind = chance.below(4);
+        CheckPlan { old, new, plan, records, null: kind < 2, small: kind % 2 == 1 }
     }
 }
 
@@ -117,6 +137,7 @@ impl Call {
             Call::Step(_) => "step",
             Call::Complies(_) => "complies",
             Call::FromChoosing(_) => "from_choosing",
+            Call::CheckPlan(_) => "check_plan",
         }
     }
 
@@ -139,6 +160,10 @@ impl Call {
             Call::FromChoosing(FromChoosing { choosing, room, null }) => vec![
                 ("choosing", Field::Bytes(choosing)), ("room", Field::Size(room)), ("null", Field::Flag(null)),
             ],
+            Call::CheckPlan(CheckPlan { old, new, plan, records, null, small }) => vec![
+                ("old", Field::Bytes(old)), ("new", Field::Bytes(new)), ("plan", Field::Bytes(plan)),
+                ("records", Field::Size(records)), ("null", Field::Flag(null)), ("small", Field::Flag(small)),
+            ],
         }
     }
 
@@ -159,6 +184,7 @@ impl Call {
             "step" => Call::Step(Step::default()),
             "complies" => Call::Complies(Complies::default()),
             "from_choosing" => Call::FromChoosing(FromChoosing::default()),
+            "check_plan" => Call::CheckPlan(CheckPlan::default()),
             _ => return None,
         };
         for line in lines {
@@ -181,8 +207,9 @@ mod tests {
         let step = Step { plan: vec![0, 0xFF], state: 65535, code: 255, null: true };
         let complies = Complies { client: vec![9], ..Complies::default() };
         let converted = FromChoosing { choosing: vec![1, 0xC6], room: 2118, null: true };
+        let checked = CheckPlan::new(&mut chance, vec![2], vec![], vec![3, 0xEE], 4097);
         let calls = [Call::Connect(connect), Call::Step(step), Call::Complies(complies), Call::FromChoosing(converted)];
-        for call in calls {
+        for call in calls.into_iter().chain([Call::CheckPlan(checked)]) {
             assert_eq!(Call::read(&format!("# why\n{}", call.text())), Some(call));
         }
         assert_eq!(Call::read("step\ncode 256\n"), None);

@@ -10,6 +10,7 @@ pub mod failures;
 pub mod guarded;
 pub mod loose;
 pub mod parts;
+pub mod plan;
 pub mod runner;
 pub mod smaller;
 pub mod tally;

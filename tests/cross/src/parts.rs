@@ -1,5 +1,6 @@
 //! The inputs, in parts. Each part draws from a sequence of its own.
 
+mod by_hand;
 mod choosing;
 mod clients;
 mod edits;
@@ -31,7 +32,7 @@ impl Share {
 type Part = fn(&mut Runner, &mut Chance, Share) -> Checked;
 
 /// The parts, by name.
-pub const PARTS: [(&str, Part); 15] = [
+pub const PARTS: [(&str, Part); 20] = [
     ("nothing lent, nothing given", empty::run),
     ("lengths at and beyond the limits", lengths::run),
     ("random bytes of all lengths", noise::run),
@@ -47,6 +48,11 @@ pub const PARTS: [(&str, Part); 15] = [
     ("every byte of choosing sheets changed", single::choosing_sheets),
     ("choosing sheets of all lengths", choosing::lengths),
     ("untidy masks", untidy::run),
+    ("plans edited by hand", by_hand::edited),
+    ("checks of damaged sheets and plans", by_hand::damaged),
+    ("every byte of checked plans changed", by_hand::single),
+    ("checks with many pairs", by_hand::many),
+    ("checks at and beyond the limits", by_hand::lengths),
 ];
 
 /// An emitted plan that is not trivial, of at most so many bytes.

@@ -1,18 +1,20 @@
 //! How often each outcome was met.
 
-use crate::call::Call;
-use crate::target::Figures;
+use crate::call::{Call, CheckPlan};
+use crate::target::{Figures, FAULT};
 use crate::untidy::out_of_order_first;
+use baseline::MOST_SITUATIONS;
 
 /// The highest number of a refusal.
-const LAST: usize = 20;
+const LAST: usize = 21;
 
 /// The functions, and the numbers that each can answer.
-const FUNCTIONS: [(&str, &[usize]); 4] = [
+const FUNCTIONS: [(&str, &[usize]); 5] = [
     ("connect", &[0, 1, 2, 3, 4, 5, 6, 7, 8, 9, 10, 11, 12, 13]),
     ("step", &[0, 14, 15, 16]),
     ("complies", &[0, 1, 2, 3, 4, 5, 6, 7, 8, 9]),
     ("from_choosing", &[0, 13, 17, 18, 19, 20]),
+    ("check_plan", &[0, 1, 2, 3, 4, 5, 6, 7, 8, 9, 11, 14, 21]),
 ];
 
 #[derive(Default)]
@@ -26,6 +28,11 @@ pub struct Tally {
     out_of_order: u64,
     /// Choosing sheets converted to sheets of fewer than 100 bytes, than 1,000, and more.
     converted: [u64; 3],
+    /// Unsound plans by the condition that fails first.
+    conditions: [u64; 3],
+    /// Plans refused for names other than both sheets'; for more pairs than there may be, whatever is lent.
+    other_names: u64,
+    beyond: u64,
 }
 
 impl Tally {
@@ -36,6 +43,7 @@ impl Tally {
             Call::Step(_) => 1,
             Call::Complies(_) => 2,
             Call::FromChoosing(_) => 3,
+            Call::CheckPlan(_) => 4,
         };
         self.numbers[function][number] += 1;
         if function == 0 && figures[3] > 0 {
@@ -47,6 +55,18 @@ impl Tally {
         if function == 3 && number == 0 {
             self.converted[(figures[3].ilog10() as usize).saturating_sub(1).min(2)] += 1;
         }
+        if let Call::CheckPlan(check) = call {
+            self.count_check(check, figures);
+        }
+    }
+
+    fn count_check(&mut self, check: &CheckPlan, figures: &Figures) {
+        if let Some(count) = self.conditions.get_mut((figures[FAULT] as usize).wrapping_sub(1)) {
+            *count += 1;
+        }
+        let names = |sheet: &[u8]| sheet[sheet.len() - 3];
+        self.other_names += u64::from(figures[0] == 9 && names(&check.old) == names(&check.new));
+        self.beyond += u64::from(figures[0] == 11 && check.records > MOST_SITUATIONS);
     }
 
     pub fn calls(&self) -> u64 {
@@ -75,6 +95,12 @@ impl Tally {
         if self.converted.contains(&0) {
             missing.push("no choosing sheets were converted to tens, hundreds or thousands of bytes".into());
         }
+        if self.conditions.contains(&0) {
+            missing.push("no plan was unsound by each of the three conditions".into());
+        }
+        if self.other_names == 0 || self.beyond == 0 {
+            missing.push("no plan was refused for its own names, or for pairs beyond the limit".into());
+        }
         missing
     }
 
@@ -101,6 +127,9 @@ impl Tally {
         );
         lines += &format!("refused for a bit too many, a mask out of order first: {}\n", self.out_of_order);
         let [tens, hundreds, thousands] = self.converted;
-        lines + &format!("converted to bytes below 100: {tens}, below 1,000: {hundreds}, more: {thousands}\n")
+        lines += &format!("converted to bytes below 100: {tens}, below 1,000: {hundreds}, more: {thousands}\n");
+        let [buffer, meeting, test] = self.conditions;
+        lines += &format!("unsound by a count: {buffer}, by a move that is not met: {meeting}, by the test: {test}; ");
+        lines + &format!("plans of other names: {}, pairs beyond the limit: {}\n", self.other_names, self.beyond)
     }
 }

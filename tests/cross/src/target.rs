@@ -1,17 +1,21 @@
 //! What is compared: anything that answers calls.
 
-use crate::call::{Call, Complies, Connect, FromChoosing, Step};
+use crate::call::{Call, CheckPlan, Complies, Connect, FromChoosing, Step};
 use crate::guarded::Guarded;
-use baseline::Workspace;
+use baseline::{Checker, Workspace};
 use product::{Lent, Table};
 
 /// More records than document 01's limit of situations.
 pub const MOST_RECORDS: usize = 4200;
 
 /// For connecting: number, sheet, state, situations, plan states, rounds, length. For stepping: number, state.
-/// For the client check: number, sheet, state, and 1 for yes. For converting: number, sheet, state, length. The rest is
-/// 0.
-pub type Figures = [u32; 7];
+/// For the client check: number, sheet, state, and 1 for yes. For converting: number, sheet, state, length. For the
+/// check of a plan: as for connecting; then, from FAULT on, condition, code, ready set, plan state, fourteen counts, old
+/// state, new state. The rest is 0.
+pub type Figures = [u32; 27];
+
+/// Where the figures of a fault begin.
+pub const FAULT: usize = 7;
 
 /// All that a call answers and leaves behind.
 #[derive(Debug, PartialEq, Eq)]
@@ -28,11 +32,18 @@ pub trait Target {
     fn answer(&mut self, call: &Call) -> Outcome<'_>;
 }
 
+/// Figures, the rest being 0.
+pub fn padded<const COUNT: usize>(figures: [u32; COUNT]) -> Figures {
+    let mut all = Figures::default();
+    all[..COUNT].copy_from_slice(&figures);
+    all
+}
+
 /// The figures of an answer of either side.
 macro_rules! connect_figures {
     ($answer:expr) => {{
         let answer = $answer;
-        let figures: Figures = [
+        padded([
             answer.number.into(),
             answer.sheet.into(),
             answer.state.into(),
@@ -40,32 +51,45 @@ macro_rules! connect_figures {
             answer.states.into(),
             answer.rounds.into(),
             answer.length,
-        ];
+        ])
+    }};
+}
+
+/// The figures of the check of a plan, and of what is at fault in it, of either side.
+macro_rules! check_figures {
+    ($answer:expr, $fault:expr) => {{
+        let (mut figures, fault) = (connect_figures!($answer), $fault);
+        let (front, back) = figures[FAULT..].split_at_mut(4);
+        let (counts, states) = back.split_at_mut(14);
+        front.copy_from_slice(&[fault.condition.into(), fault.code.into(), fault.ready.into(), fault.state.into()]);
+        counts.copy_from_slice(&fault.counts.map(u32::from));
+        states.copy_from_slice(&[fault.old_state.into(), fault.new_state.into()]);
         figures
     }};
 }
 
 fn complies_figures(number: u8, sheet: u8, state: u8, yes: u8) -> Figures {
-    [number.into(), sheet.into(), state.into(), yes.into(), 0, 0, 0]
+    padded([number.into(), sheet.into(), state.into(), yes.into()])
 }
 
 fn sheet_figures(number: u8, sheet: u8, state: u8, length: u16) -> Figures {
-    [number.into(), sheet.into(), state.into(), length.into(), 0, 0, 0]
+    padded([number.into(), sheet.into(), state.into(), length.into()])
 }
 
 fn step_figures(number: u8, state: u16) -> Figures {
-    [number.into(), state.into(), 0, 0, 0, 0, 0]
+    padded([number.into(), state.into()])
 }
 
 /// tests/baseline. Its work memory is its own.
 pub struct Baseline {
     workspace: Workspace,
+    checker: Checker,
     lent: Guarded,
 }
 
 impl Baseline {
     pub fn new() -> Baseline {
-        Baseline { workspace: Workspace::new(MOST_RECORDS), lent: Guarded::default() }
+        Baseline { workspace: Workspace::new(MOST_RECORDS), checker: Checker::new(), lent: Guarded::default() }
     }
 }
 
@@ -96,6 +120,11 @@ impl Target for Baseline {
                 let (number, length) = baseline::convert(choosing, self.lent.inside_mut());
                 (sheet_figures(number, 0, 0, length), Some(&self.lent))
             }
+            Call::CheckPlan(CheckPlan { old, new, plan, records, .. }) => {
+                let answer = self.checker.check(old, new, plan, *records);
+                let fault = self.checker.fault(old, new, plan, *records);
+                (check_figures!(answer, fault), None)
+            }
         };
         Outcome { figures, lent, as_due: true }
     }
@@ -107,13 +136,14 @@ pub struct Product {
     table: Table,
     first: Guarded,
     second: Guarded,
+    third: Guarded,
     lent: Guarded,
 }
 
 impl Product {
     pub fn new() -> Product {
-        let (first, second, lent) = (Guarded::default(), Guarded::default(), Guarded::default());
-        Product { table: Table::new(MOST_RECORDS), first, second, lent }
+        let [first, second, third, lent] = std::array::from_fn(|_| Guarded::default());
+        Product { table: Table::new(MOST_RECORDS), first, second, third, lent }
     }
 
     fn connect(&mut self, call: &Connect) -> (Figures, bool) {
@@ -126,6 +156,23 @@ impl Product {
         let answer = self.table.connect(&lent, call.k, old, new, self.lent.inside_mut());
         let as_due = self.table.is_as_due(&lent, answer.number);
         (connect_figures!(answer), as_due && self.first.holds(&call.old) && self.second.holds(&call.new))
+    }
+
+    /// The table is due to be the same after both calls, by the number of the first.
+    fn check_plan(&mut self, call: &CheckPlan) -> (Figures, bool) {
+        let lent = Lent { records: call.records, null: call.null, small: call.small };
+        self.first.place(&call.old);
+        self.second.place(&call.new);
+        self.third.place(&call.plan);
+        let (old, new, plan) = (self.first.inside(), self.second.inside(), self.third.inside());
+        self.table.fill(&lent);
+        let answer = self.table.check_plan(&lent, old, new, plan);
+        let mut as_due = self.table.is_as_due(&lent, answer.number);
+        self.table.fill(&lent);
+        let fault = self.table.plan_fault(&lent, old, new, plan);
+        as_due &= self.table.is_as_due(&lent, answer.number);
+        as_due &= self.first.holds(&call.old) && self.second.holds(&call.new) && self.third.holds(&call.plan);
+        (check_figures!(answer, fault), as_due)
     }
 }
 
@@ -161,6 +208,10 @@ impl Target for Product {
                 let answer = product::from_choosing(self.first.inside(), self.lent.inside_mut(), *null);
                 let figures = sheet_figures(answer.number, answer.sheet, answer.state, answer.length);
                 Outcome { figures, lent: Some(&self.lent), as_due: self.first.holds(choosing) }
+            }
+            Call::CheckPlan(check) => {
+                let (figures, as_due) = self.check_plan(check);
+                Outcome { figures, lent: None, as_due }
             }
         }
     }

@@ -61,11 +61,12 @@ pub fn out_of_order_first(call: &Call, figures: &Figures) -> bool {
 mod tests {
     use super::*;
     use crate::contract::{Shape, CLIENT, SERVICE};
+    use crate::target::padded;
 
     fn checked(client: Vec<u8>) -> (Call, Figures) {
         let (number, sheet, state, _) = baseline::complies(&client, &[]);
         let call = Call::Complies(Complies { client, ..Complies::default() });
-        (call, [number.into(), sheet.into(), state.into(), 0, 0, 0, 0])
+        (call, padded([number.into(), sheet.into(), state.into()]))
     }
 
     #[test]

@@ -1,12 +1,13 @@
 //! A wrong side is caught, the input made small and stored, and the stored input replayed. That the right sides
 //! agree is tried at a small share.
 
-use cross::call::{Call, Complies, Connect, FromChoosing, Step};
+use baseline::Checker;
+use cross::call::{Call, CheckPlan, Complies, Connect, FromChoosing, Step};
 use cross::chance::Chance;
 use cross::guarded::Guarded;
 use cross::parts::{Share, PARTS};
 use cross::runner::{Checked, Ended, Runner};
-use cross::target::{Baseline, Figures, Outcome, Product, Target};
+use cross::target::{Baseline, Figures, Outcome, Product, Target, FAULT};
 use cross::untidy::out_of_order_first;
 use std::path::PathBuf;
 
@@ -226,6 +227,93 @@ fn too_many_ready_sets_written_all_the_same() {
     // Nine open rows with different masks, over four actions, and the hiding rows that lead to them.
     let (choosing, room) = left_of(call);
     assert!(choosing.len() < 110 && room == 0, "{choosing:?}, {room}");
+}
+
+/// The check that is left for a fault.
+fn checked(call: Call) -> CheckPlan {
+    match call {
+        Call::CheckPlan(check) if !check.null && !check.small => check,
+        other => panic!("not small: {other:?}"),
+    }
+}
+
+#[test]
+fn an_unsound_plan_before_too_many_pairs() {
+    let call = caught("capacity", |call, figures, _, _| {
+        if let (Call::CheckPlan(CheckPlan { old, new, plan, records: 1.., .. }), 11) = (call, figures[0]) {
+            figures[0] = match Checker::new().check(old, new, plan, 5000).number {
+                21 => 21,
+                _ => 11,
+            };
+        }
+    });
+    // Two pairs, one of which is unsound, and a record.
+    let CheckPlan { plan, records: 1, .. } = checked(call) else {
+        panic!("not small");
+    };
+    assert!(plan.len() <= 2 * (1 + 2 * 3) + 2 * 4 + 8, "{plan:?}");
+}
+
+#[test]
+fn a_walk_that_ends_at_an_unsound_start() {
+    let call = caught("start", |call, figures, _, _| {
+        if let (Call::CheckPlan(CheckPlan { old, new, plan, records: 1.., .. }), 11) = (call, figures[0]) {
+            let fault = Checker::new().fault(old, new, plan, 5000);
+            if fault.condition > 0
+                && fault.counts == [0; 14]
+                && (fault.state, fault.old_state, fault.new_state) == (0, 0, 0)
+            {
+                figures[0] = 21;
+            }
+        }
+    });
+    assert_eq!(checked(call).records, 1);
+}
+
+#[test]
+fn a_wrong_code_of_a_fault() {
+    let call = caught("code", |_, figures, _, _| {
+        if figures[FAULT] == 2 && figures[FAULT + 1] >= 16 {
+            figures[FAULT + 1] -= 16;
+        }
+    });
+    // One state each that offers nothing; one row with one move.
+    let CheckPlan { old, new, plan, records: 1, .. } = checked(call) else {
+        panic!("not small");
+    };
+    assert_eq!((old.len(), new.len(), plan.len()), (3 + 2 + 6, 3 + 2 + 6, 4 + 4 + 8));
+}
+
+#[test]
+fn a_wrong_ready_set_of_a_fault() {
+    let call = caught("unanswered", |_, figures, _, _| {
+        if figures[FAULT] == 3 && figures[FAULT + 2] > 0 {
+            figures[FAULT + 2] = 0;
+        }
+    });
+    // An old state that wants something, a new one that offers something, and nothing in between.
+    let CheckPlan { plan, records: 1, .. } = checked(call) else {
+        panic!("not small");
+    };
+    assert_eq!(plan.len(), 1 + 4 + 8);
+}
+
+#[test]
+fn a_fault_in_the_wrong_situation() {
+    let call = caught("situation", |_, figures, _, _| {
+        if figures[FAULT] > 0 && figures[FAULT + 4..FAULT + 18].iter().any(|count| *count > 0) {
+            figures[FAULT + 4..FAULT + 18].fill(0);
+        }
+    });
+    assert_eq!(checked(call).records, 2);
+}
+
+#[test]
+fn a_table_left_dirty_behind_an_unsound_plan() {
+    let call = caught("unsound", |call, figures, _, as_due| {
+        *as_due = !(matches!(call, Call::CheckPlan(_)) && figures[0] == 21);
+    });
+    assert_eq!(checked(call).records, 1);
 }
 
 #[test]

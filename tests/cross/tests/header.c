@@ -37,6 +37,7 @@ int main(void)
     NUMBER(CIRCLE);
     NUMBER(STATES);
     NUMBER(READY_SETS);
+    NUMBER(UNSOUND);
 
     STRUCT(adapter_record);
 
@@ -64,5 +65,14 @@ int main(void)
     FIELD(adapter_sheet_answer, sheet);
     FIELD(adapter_sheet_answer, state);
     FIELD(adapter_sheet_answer, length);
+
+    STRUCT(adapter_fault);
+    FIELD(adapter_fault, condition);
+    FIELD(adapter_fault, code);
+    FIELD(adapter_fault, ready);
+    FIELD(adapter_fault, state);
+    FIELD(adapter_fault, counts);
+    FIELD(adapter_fault, old_state);
+    FIELD(adapter_fault, new_state);
     return 0;
 }

@@ -3,7 +3,7 @@
 use crate::table::Record;
 use std::ptr::{null, null_mut};
 
-/// What connecting answers.
+/// What connecting answers, and the check of a plan.
 #[repr(C)]
 #[derive(Clone, Copy, Debug, PartialEq, Eq)]
 pub struct Answer {
@@ -44,6 +44,19 @@ pub struct SheetAnswer {
     pub length: u16,
 }
 
+/// What is at fault in a plan that the check refuses as unsound.
+#[repr(C)]
+#[derive(Clone, Copy, Debug, PartialEq, Eq)]
+pub struct Fault {
+    pub condition: u8,
+    pub code: u8,
+    pub ready: u16,
+    pub state: u16,
+    pub counts: [u8; 14],
+    pub old_state: u8,
+    pub new_state: u8,
+}
+
 #[rustfmt::skip]
 extern "C" {
     pub fn adapter_connect(
@@ -65,6 +78,20 @@ extern "C" {
         choosing: *const u8, choosing_length: usize,
         sheet: *mut u8, sheet_length: usize,
     ) -> SheetAnswer;
+
+    pub fn adapter_check_plan(
+        old: *const u8, old_length: usize,
+        new: *const u8, new_length: usize,
+        plan: *const u8, plan_length: usize,
+        work: *mut Record, work_length: usize,
+    ) -> Answer;
+
+    pub fn adapter_plan_fault(
+        old: *const u8, old_length: usize,
+        new: *const u8, new_length: usize,
+        plan: *const u8, plan_length: usize,
+        work: *mut Record, work_length: usize,
+    ) -> Fault;
 }
 
 /// A slice as a pointer and a length. With `as_null`, the pointer of a slice without elements is null.

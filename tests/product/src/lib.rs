@@ -4,7 +4,7 @@
 mod foreign;
 mod table;
 
-pub use foreign::{Answer, Compliance, SheetAnswer, Stepped};
+pub use foreign::{Answer, Compliance, Fault, SheetAnswer, Stepped};
 pub use table::{Lent, Record, Table};
 
 use foreign::{lent, passed};

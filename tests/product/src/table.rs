@@ -1,6 +1,6 @@
 //! The work table: how it is lent, filled and looked at.
 
-use crate::foreign::{adapter_connect, lent, passed, Answer};
+use crate::foreign::{adapter_check_plan, adapter_connect, adapter_plan_fault, lent, passed, Answer, Fault};
 
 /// How many bytes a record has. It has no gaps, so the product sees every one of them.
 const SIZE: usize = 208;
@@ -77,12 +77,13 @@ impl Table {
     }
 
     /// Whether the table, filled before the call, is as document 01 says after an answer of this number:
-    /// unchanged by refusals 1 to 10, zero after every other call; and nothing around it was touched.
+    /// unchanged by refusals 1 to 10 and 14, which come before anything is counted, zero after every other call; and
+    /// nothing around it was touched.
     pub fn is_as_due(&self, given: &Lent, number: u8) -> bool {
         let length = given.records + 2 * GUARDS;
         let (records, pattern) = (&self.records[..length], &self.patterns[usize::from(given.small)][..length]);
         let inside = GUARDS..GUARDS + given.records;
-        let due = if (1..=10).contains(&number) {
+        let due = if matches!(number, 1..=10 | 14) {
             records[inside.clone()] == pattern[inside]
         } else {
             records[inside].iter().all(|record| *record == ZERO)
@@ -100,6 +101,25 @@ impl Table {
         // Each pointer is that of a slice, passed with its length, or null with length 0; no two of those written
         // to overlap.
         unsafe { adapter_connect(k, old.0, old.1, new.0, new.1, work.0, work.1, plan.0, plan.1) }
+    }
+
+    /// Checks a plan from any hand.
+    pub fn check_plan(&mut self, given: &Lent, old: &[u8], new: &[u8], plan: &[u8]) -> Answer {
+        let null = given.null;
+        let (old, new, plan) = (passed(old, null), passed(new, null), passed(plan, null));
+        let work = lent(&mut self.records[GUARDS..GUARDS + given.records], null);
+        // Each pointer is that of a slice, passed with its length, or null with length 0; the one written to overlaps
+        // no other.
+        unsafe { adapter_check_plan(old.0, old.1, new.0, new.1, plan.0, plan.1, work.0, work.1) }
+    }
+
+    /// Says what is at fault in a plan.
+    pub fn plan_fault(&mut self, given: &Lent, old: &[u8], new: &[u8], plan: &[u8]) -> Fault {
+        let null = given.null;
+        let (old, new, plan) = (passed(old, null), passed(new, null), passed(plan, null));
+        let work = lent(&mut self.records[GUARDS..GUARDS + given.records], null);
+        // As for the check.
+        unsafe { adapter_plan_fault(old.0, old.1, new.0, new.1, plan.0, plan.1, work.0, work.1) }
     }
 }
 
@@ -124,13 +144,15 @@ mod tests {
             for place in 0..3 * SIZE {
                 let (record, byte) = (GUARDS + place / SIZE, place % SIZE);
                 let mut table = filled(&lent);
-                assert!(table.is_as_due(&lent, 1) && table.is_as_due(&lent, 10) && !table.is_as_due(&lent, 0));
+                let due = [0, 1, 10, 11, 14, 21].map(|number| table.is_as_due(&lent, number));
+                assert_eq!(due, [false, true, true, false, true, false]);
                 table.records[record].0[byte] ^= 2;
-                assert!(!table.is_as_due(&lent, 10));
+                assert!(!table.is_as_due(&lent, 10) && !table.is_as_due(&lent, 14));
                 table.records[GUARDS..GUARDS + 3].fill(ZERO);
-                assert!(table.is_as_due(&lent, 0) && table.is_as_due(&lent, 11) && !table.is_as_due(&lent, 10));
+                let due = [0, 1, 10, 11, 14, 21].map(|number| table.is_as_due(&lent, number));
+                assert_eq!(due, [true, false, false, true, false, true]);
                 table.records[record].0[byte] = 1;
-                assert!(!table.is_as_due(&lent, 11));
+                assert!(!table.is_as_due(&lent, 11) && !table.is_as_due(&lent, 21));
             }
         }
     }

@@ -48,7 +48,7 @@ pub fn choosing_sheets(runner: &mut Runner, chance: &mut Chance, share: Share) -
 }
 
 /// The call with each byte changed to every other value.
-fn each_change(runner: &mut Runner, bytes: &[u8], mut call: impl FnMut(Vec<u8>) -> Call) -> Checked {
+pub fn each_change(runner: &mut Runner, bytes: &[u8], mut call: impl FnMut(Vec<u8>) -> Call) -> Checked {
     for place in 0..bytes.len() {
         for value in (0..=255).filter(|value| *value != bytes[place]) {
             let mut changed = bytes.to_vec();

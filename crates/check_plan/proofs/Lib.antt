@@ -1,0 +1,4 @@
+pub mod Admitting
+pub mod Walking
+pub mod Outcomes
+pub mod calls

@@ -1,0 +1,12 @@
+pub mod First
+pub mod Places
+pub mod Sound
+pub mod Decides
+pub mod Answers
+pub mod Fault
+pub mod Leads
+pub mod Passed
+pub mod AnyHand
+pub mod Connects
+pub mod Ours
+pub mod Cases
