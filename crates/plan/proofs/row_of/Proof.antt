@@ -1,6 +1,5 @@
 -- `plan::row_of` meets its contract: a plan's row stands where the index says.
 -- Assumes nothing.
-use Prim.Native.Nat.{ℕ}
 use native.Mathlib.Omega.{arith}
 use Rattle.model.specs.Bytes.{byte}
 use Rattle.plan.proofs.Stands.{trailer-fits, entry-fits, row-fits, row-stands}
