@@ -6,15 +6,18 @@ name (8-bit length and that many bytes); lent records (16 bits); lent plan bytes
 bits).  Numbers are little-endian.  The names of random pairs are empty.  The
 pairs of `plans` are connected, and then their plans checked.  Two files,
 `choosing` and `random-choosing`, are of the records that choosing_corpus.py
-has, and one, `random-plans`, of those that plans_corpus.py has.  Every run
-writes the same bytes.
+has, two, `clients` and `random-clients`, of those of clients_corpus.py, and
+one, `random-plans`, of those of plans_corpus.py.  Every run writes the same
+bytes.
 """
 
 import sys
 from pathlib import Path
 from typing import NamedTuple
 
-from tests.bench import choosing_corpus, plans_corpus
+from tests.bench import choosing_corpus, clients_corpus, plans_corpus
+from tests.bench.shop import NAMES, NO_RECEIPT, PAYMENT_FIRST, SHOP
+from tests.reference.actions import mask_of as mask
 from tests.reference.chance import Chance
 from tests.reference.pair_cases import small_sheets
 from tests.reference.random_contracts import Shape, random_contract, resembling
@@ -46,55 +49,11 @@ def sheet(n, states):
     return write_sheet(Contract(n, SERVICE, tuple(states)))
 
 
-def mask(*actions):
-    return sum(1 << action for action in actions)
-
-
 def every_action(n):
     return mask(*range(n), *range(7, 7 + n))
 
 
-# Pairs as they stand in an editor: an order is taken, then a payment, then the
-# outcome is sent.
-
-ORDER, PAYMENT, CANCEL, RECEIPT, REFUSAL = 0, 1, 2, 10, 11
-NAMES = 5
-END = state([0], [])
-
-
-def takes(*ways):
-    """The client chooses among ways, each an action and a successor."""
-    ways = sorted(ways)
-    return state([mask(*(action for action, _ in ways))], [after for _, after in ways])
-
-
-def sends(*ways):
-    """The service chooses among ways by itself."""
-    ways = sorted(ways)
-    return state([mask(action) for action, _ in ways], [after for _, after in ways])
-
-
-SHOP = [
-    takes((ORDER, 1)),
-    takes((PAYMENT, 2), (CANCEL, 4)),
-    sends((RECEIPT, 3), (REFUSAL, 4)),
-    takes((ORDER, 1), (CANCEL, 4)),
-    END,
-]
-
-PAYMENT_FIRST = [
-    takes((PAYMENT, 1), (CANCEL, 4)),
-    takes((ORDER, 2)),
-    sends((RECEIPT, 3), (REFUSAL, 4)),
-    takes((PAYMENT, 1), (CANCEL, 4)),
-    END,
-]
-
-NO_RECEIPT = [
-    takes((ORDER, 1)),
-    takes((PAYMENT, 2), (CANCEL, 2)),
-    END,
-]
+# Pairs as they stand in an editor.
 
 
 def editor():
@@ -278,6 +237,8 @@ def main(folder):
         ("random", random_pairs()),
         ("plans", plans()),
         ("random-plans", plans_corpus.random_inputs()),
+        ("clients", clients_corpus.inputs()),
+        ("random-clients", clients_corpus.random_inputs()),
         ("choosing", choosing_corpus.inputs()),
         ("random-choosing", choosing_corpus.random_inputs()),
     ):

@@ -1,4 +1,4 @@
-//! The files of inputs that corpus.py writes, with choosing_corpus.py and plans_corpus.py.
+//! The files of inputs that corpus.py writes, with choosing_corpus.py, clients_corpus.py and plans_corpus.py.
 
 use crate::connector::Call;
 use std::path::Path;
@@ -33,6 +33,13 @@ pub struct Choosing {
     pub room: usize,
 }
 
+/// A client to be checked against a service.
+pub struct Client {
+    pub name: String,
+    pub client: Vec<u8>,
+    pub service: Vec<u8>,
+}
+
 /// The rest of a file.
 struct Rest<'a>(&'a [u8]);
 
@@ -59,6 +66,10 @@ impl Rest<'_> {
     fn choosing(&mut self) -> Choosing {
         let (name, room) = (self.name(), self.number(2));
         Choosing { name, bytes: self.measured(2), room }
+    }
+
+    fn client(&mut self) -> Client {
+        Client { name: self.name(), client: self.measured(2), service: self.measured(2) }
     }
 
     fn check(&mut self) -> Check {
@@ -94,4 +105,8 @@ pub fn checks(path: &Path) -> Vec<Check> {
 
 pub fn choosing(path: &Path) -> Vec<Choosing> {
     records(path, |rest| rest.choosing())
+}
+
+pub fn clients(path: &Path) -> Vec<Client> {
+    records(path, |rest| rest.client())
 }

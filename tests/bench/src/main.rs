@@ -1,8 +1,9 @@
 //! `bench FOLDER` compares the connectors on all inputs of the folder, then times them on the benchmark's; the same for
-//! the conversion of choosing sheets and for the check of plans. `bench FOLDER describe` says what the benchmark's inputs
-//! are.
+//! the conversion of choosing sheets, for the check of clients and for the check of plans. `bench FOLDER describe` says what
+//! the benchmark's inputs are.
 
 mod choosing;
+mod clients;
 mod connector;
 mod corpus;
 mod plans;
@@ -111,6 +112,8 @@ fn main() {
     let answers = compared(&mut connectors, &inputs);
     let [choosing, random_choosing] = ["choosing", "random-choosing"].map(|name| corpus::choosing(&folder.join(name)));
     let converted = choosing::compared(&choosing);
+    let [clients, random_clients] = ["clients", "random-clients"].map(|name| corpus::clients(&folder.join(name)));
+    let complying = clients::compared(&clients);
     let checked = plans::emitted(&corpus::read(&folder.join("plans")));
     if arguments.get(1).is_some_and(|word| word == "describe") {
         println!("{:34} {FIGURES}", "input");
@@ -118,6 +121,7 @@ fn main() {
             println!("{:34} {}", input.name, figures(answer));
         }
         choosing::describe(&choosing, &converted);
+        clients::describe(&clients, &complying);
         plans::describe(&checked);
         return;
     }
@@ -125,10 +129,13 @@ fn main() {
     println!("compared: {} inputs, {} random pairs", inputs.len(), random.len());
     choosing::compared(&random_choosing);
     println!("compared: {} choosing sheets, {} random ones", choosing.len(), random_choosing.len());
+    clients::compared(&random_clients);
+    println!("compared: {} clients, {} random ones", clients.len(), random_clients.len());
     let random_plans = corpus::checks(&folder.join("random-plans"));
     plans::compared(&random_plans);
     println!("compared: {} plans, {} random ones", checked.len(), random_plans.len());
     timed(&mut connectors, &inputs, &answers);
     choosing::timed(&choosing, &converted);
+    clients::timed(&clients, &complying);
     plans::timed(&checked);
 }
