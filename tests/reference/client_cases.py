@@ -5,6 +5,7 @@ sheet to the end.  Its line is: number, sheet, state, and 1 for yes or 0.
 """
 
 from .chance import Chance
+from .client_edges import edges
 from .compliance import check_client
 from .framing import Framed, measured
 from .pair_cases import small_shape
@@ -71,3 +72,5 @@ def cases():
         yield framed(f"client untidy {i}", untidy_sheet(chance), service)
         yield framed(f"service untidy {i}", client, untidy_sheet(chance))
         yield framed(f"two untidy sheets {i}", untidy_sheet(chance), untidy_sheet(chance))
+    for edge in edges():
+        yield framed(*edge)
