@@ -4,13 +4,14 @@
 mod standstills;
 
 ghost use mathlib.Core.Path.{_≡_};
-ghost use Prim.Native.Nat.{_<_};
+ghost use mathlib.Core.List.{[]};
 ghost use Rattle.model.specs.Contract.{state};
 ghost use Rattle.model.specs.Sheet.{contractIn};
 ghost use Rattle.model.specs.Situation.{kindOf};
 ghost use Rattle.model.specs.Test.{listed};
-ghost use Rattle.model.specs.Run.{need};
+ghost use Rattle.model.specs.Run.{need, moved};
 ghost use Rattle.sheet.specs.Whole.{IsState};
+ghost use Rattle.runs.specs.Runs.{runOf, MoveReady};
 use crate::standstills::Standstills;
 use crate::standstills::count_standstills;
 
@@ -51,17 +52,6 @@ fn is_ready(b: &[u8], q: u8, mask: u16) -> bool
     false
 }
 
-// The state that state q goes on to by action j; q itself, if it does not offer the action.
-fn gone_on(b: &[u8], q: u8, j: u8) -> u8
-    requires { ⌜ IsState (now b) q × (j < 14) ⌝ }
-    ensures { λ r. ⌜ IsState (now (b .entry)) r ⌝ }
-{
-    if sheet::offers_action(b, q, j) {
-        return sheet::successor(b, q, j);
-    }
-    q
-}
-
 fn larger(a: u16, b: u16) -> u16 {
     if a < b { b } else { a }
 }
@@ -71,21 +61,23 @@ fn one_more(a: u16) -> u16 {
     if a < 65535 { a + 1 } else { a }
 }
 
-// The run after a move with a code, by which the plan goes to a state.
+// The run after a move with a code, by which the plan goes to a state. A party that goes on offers the action.
 fn moved(client: &[u8], service: &[u8], run: Run, code: u8, to: u16) -> Run
-    requires { ⌜ IsState (now client) (run .client) × IsState (now service) (run .service) ⌝ }
-    ensures { λ r. ⌜ IsState (now (client .entry)) (r .client) × IsState (now (service .entry)) (r .service) ⌝ }
+    requires { ⌜ MoveReady (now client) (now service) run (kindOf code) ⌝ }
+    ensures { λ r. ⌜ (runOf r
+        ≡ moved (contractIn (now (client .entry))) (contractIn (now (service .entry))) [] (runOf run) (kindOf code) to)
+        × IsState (now (client .entry)) (r .client) × IsState (now (service .entry)) (r .service) ⌝ }
 {
     match code {
         0..=13 => Run {
-            client: gone_on(client, run.client, sheet::partner(code)),
-            service: gone_on(service, run.service, code),
+            client: sheet::successor(client, run.client, sheet::partner(code)),
+            service: sheet::successor(service, run.service, code),
             plan: to,
             alone: 0,
             longest: run.longest,
         },
         16..=29 => Run {
-            client: gone_on(client, run.client, sheet::partner(code - 16)),
+            client: sheet::successor(client, run.client, sheet::partner(code - 16)),
             service: run.service,
             plan: to,
             alone: 0,
@@ -95,7 +87,7 @@ fn moved(client: &[u8], service: &[u8], run: Run, code: u8, to: u16) -> Run
             let alone = one_more(run.alone);
             Run {
                 client: run.client,
-                service: gone_on(service, run.service, code - 32),
+                service: sheet::successor(service, run.service, code - 32),
                 plan: to,
                 alone: alone,
                 longest: larger(alone, run.longest),
