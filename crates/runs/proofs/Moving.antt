@@ -1,19 +1,18 @@
 -- A move of a run. Where its masks are ready sets of the two states and have what the code needs, those who go on offer the action; so
 -- their successors are states, and the run goes where the model's does, by the kind of the code. Assumes nothing.
-use mathlib.Core.Path.{_≡_, refl, subst, subst⁻¹}
-use mathlib.Core.Bool.{true}
-use mathlib.Core.List.{List, []}
+use mathlib.Core.Path.{_≡_, refl, sym, subst, subst⁻¹, _∙_}
+use mathlib.Core.Bool.{Bool, true}
+use mathlib.Core.List.{List, [], List·Memᴰ}
 use Prim.Native.Nat.{ℕ, _<_}
 use lib.Dec.{T}
 use Rattle.model.specs.Contract.{partner, has, state, offers, after}
 use Rattle.model.specs.Sheet.{contractIn}
 use Rattle.model.specs.Situation.{Kind, straight, client, service, stray, kindOf}
-use Rattle.model.specs.Test.{listed}
-use Rattle.model.specs.Run.{need, moved}
+use Rattle.model.specs.Run.{need, choice, moved}
 use Rattle.model.proofs.Lists.{is-true, and-both}
 use Rattle.model.proofs.Actions.{partner-action}
 use Rattle.model.proofs.Ranges.{OfAction, kind-action}
-use Rattle.model.proofs.Test.{listed-elim}
+use Rattle.model.proofs.Attempts.{choice-elim}
 use Rattle.model.proofs.Weak.{offers-of}
 use Rattle.sheet.specs.Whole.{IsState}
 use Rattle.sheet.specs.Offer.{IsOffered}
@@ -24,30 +23,32 @@ use Rattle.runs.specs.declared.Run.{Run}
 -- ---- a move is ready
 
 -- a state offers what one of its ready sets has
-ready-offers : {b : List ℕ} {q : ℕ} (R j : ℕ) → IsState b q → listed (state (contractIn b) q .ready) R ≡ true → j < 14
-    → T (has R j) → IsOffered b q j
-ready-offers {b} {q} R j at ready l h =
+ready-offers : {b : List ℕ} {q : ℕ} (R j : ℕ) → IsState b q → List·Memᴰ R (state (contractIn b) q .ready) → j < 14 → T (has R j)
+    → IsOffered b q j
+ready-offers {b} {q} R j at m l h =
     let s = state (contractIn b) q in
-    let found = listed-elim (s .ready) R (subst⁻¹ T ready tt) in
-    record { at = at; action = l; offered = is-true (offers s j) (offers-of s R j found h) }
+    record { at = at; action = l; offered = is-true (offers s j) (offers-of s R j m h) }
 
--- so those who go on offer what the need names
-pub move-ready : {user new : List ℕ} (run : Run) (R S code : ℕ) → IsState user (run .client) → IsState new (run .service)
-    → listed (state (contractIn user) (run .client) .ready) R ≡ true → listed (state (contractIn new) (run .service) .ready) S ≡ true
-    → need R S (kindOf code) ≡ true → MoveReady user new run (kindOf code)
-unfolding need
-move-ready {user} {new} run R S code p q ready-R ready-S n =
-    record { client-at = p; service-at = q; going = go (kindOf code) (kind-action code) (subst⁻¹ T n tt) }
+-- so under a choice, as the test of it says, those who go on offer what the need names
+pub move-ready : {user new : List ℕ} (run : Run) (R S code : ℕ) {chosen needed : Bool} → IsState user (run .client)
+    → IsState new (run .service) → chosen ≡ choice (contractIn user) (contractIn new) [] (runOf run) R S → chosen ≡ true
+    → needed ≡ need R S (kindOf code) → needed ≡ true → MoveReady user new run (kindOf code)
+unfolding need runOf
+move-ready {user} {new} run R S code p q is-choice chosen is-need needed =
+    record { client-at = p; service-at = q; going = go (kindOf code) (kind-action code) (subst⁻¹ T (sym is-need ∙ needed) tt) }
   where
+    sets : List·Memᴰ R (state (contractIn user) (run .client) .ready) × List·Memᴰ S (state (contractIn new) (run .service) .ready)
+    sets = choice-elim (contractIn user) (contractIn new) [] (runOf run) R S (subst⁻¹ T (sym is-choice ∙ chosen) tt)
+
     client-offers : (j : ℕ) → j < 14 → T (has R (partner j)) → IsOffered user (run .client) (partner j)
-    client-offers j l h = ready-offers R (partner j) p ready-R (partner-action j l) h
+    client-offers j l h = ready-offers R (partner j) p (sets .0) (partner-action j l) h
 
     go : (kind : Kind) → OfAction kind → T (need R S kind) → GoOn user new (run .client) (run .service) kind
     go (straight j) l h =
         let w = and-both (has S j) (has R (partner j)) h in
-        (client-offers j l (w .1), ready-offers S j q ready-S l (w .0))
+        (client-offers j l (w .1), ready-offers S j q (sets .1) l (w .0))
     go (client j) l h = client-offers j l h
-    go (service j) l h = ready-offers S j q ready-S l h
+    go (service j) l h = ready-offers S j q (sets .1) l h
     go stray l h = absurd h
 
 -- ---- a move is made

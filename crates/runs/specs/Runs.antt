@@ -1,7 +1,9 @@
--- Runs between two sheets: the record for the model's run, and when a move can be made. Document 01, "The client check and the run".
--- Assumes nothing.
-use mathlib.Core.List.{List}
-use Prim.Native.Nat.{ℕ}
+-- Runs between two sheets: the record for the model's run, when a move can be made, and attempts in bytes. Document 01, "The client check
+-- and the run". Assumes nothing.
+use mathlib.Core.List.{List, [], _∷_}
+use Prim.Native.Nat.{ℕ, zero, suc, _+_, _/_}
+use lib.ListN.{length}
+use Rattle.model.specs.Bytes.{byte, word}
 use Rattle.model.specs.Contract.{partner}
 use Rattle.model.specs.Situation.{Kind, straight, client, service, stray}
 use Rattle.model.specs.Run as model
@@ -27,3 +29,13 @@ pub record MoveReady (user new : List ℕ) (run : Run) (kind : Kind) : Type 0 wh
   pub service-at : IsState new (run .service)
   -- and those who move offer what they go on by
   pub going : GoOn user new (run .client) (run .service) kind
+
+-- "two masks R and S and a code byte each": `left` attempts that stand in the bytes from a place on
+unfoldable pub attemptsFrom : List ℕ → ℕ → ℕ → List model.Attempt
+attemptsFrom b at zero = []
+attemptsFrom b at (suc left) =
+    record { R = word b at; S = word b (at + 2); code = byte b (at + 4) } ∷ attemptsFrom b (at + 5) left
+
+-- the whole attempts of five bytes that stand in the bytes
+unfoldable pub attemptsIn : List ℕ → List model.Attempt
+attemptsIn b = attemptsFrom b 0 (length b / 5)

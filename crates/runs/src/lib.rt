@@ -9,9 +9,10 @@ ghost use Rattle.model.specs.Contract.{state};
 ghost use Rattle.model.specs.Sheet.{contractIn};
 ghost use Rattle.model.specs.Situation.{kindOf};
 ghost use Rattle.model.specs.Test.{listed};
-ghost use Rattle.model.specs.Run.{need, moved};
+ghost use Rattle.model.specs.Plan.{rowsIn};
+ghost use Rattle.model.specs.Run.{need, choice, moved, attempted, runFrom};
 ghost use Rattle.sheet.specs.Whole.{IsState};
-ghost use Rattle.runs.specs.Runs.{runOf, MoveReady};
+ghost use Rattle.runs.specs.Runs.{runOf, MoveReady, attemptsIn};
 use crate::standstills::Standstills;
 use crate::standstills::count_standstills;
 
@@ -103,14 +104,24 @@ fn print_attempt(made: bool, stepped: plan::Stepped) {
     framing::print_last(stepped.state as u64);
 }
 
+// Whether R and S are a choice: ready sets of the present client and service states.
+fn is_choice(client: &[u8], service: &[u8], run: Run, R: u16, S: u16) -> bool
+    requires { ⌜ IsState (now client) (run .client) × IsState (now service) (run .service) ⌝ }
+    ensures { λ r. ⌜ r ≡ choice (contractIn (now (client .entry))) (contractIn (now (service .entry))) [] (runOf run) R S ⌝ }
+{
+    is_ready(client, run.client, R) && is_ready(service, run.service, S)
+}
+
 // The run after an attempt, whose line is printed.
 fn attempted(client: &[u8], service: &[u8], plan: &[u8], run: Run, R: u16, S: u16, code: u8) -> Run
     requires { ⌜ IsState (now client) (run .client) × IsState (now service) (run .service) ⌝ }
-    ensures { λ r. ⌜ IsState (now (client .entry)) (r .client) × IsState (now (service .entry)) (r .service) ⌝ }
+    ensures { λ r. ⌜ (runOf r
+        ≡ attempted (contractIn (now (client .entry))) (contractIn (now (service .entry))) (rowsIn (now (plan .entry))) (runOf run)
+        (record { R = R; S = S; code = code }))
+        × IsState (now (client .entry)) (r .client) × IsState (now (service .entry)) (r .service) ⌝ }
 {
     let stepped = plan::step(plan, run.plan, code);
-    let chosen = is_ready(client, run.client, R) && is_ready(service, run.service, S);
-    if chosen && stepped.number == 0 && need_met(R, S, code) {
+    if is_choice(client, service, run, R, S) && stepped.number == 0 && need_met(R, S, code) {
         print_attempt(true, stepped);
         return moved(client, service, run, code, stepped.state);
     }
@@ -121,7 +132,10 @@ fn attempted(client: &[u8], service: &[u8], plan: &[u8], run: Run, R: u16, S: u1
 // The run after a list of attempts, whose lines are printed.
 fn followed(client: &[u8], service: &[u8], plan: &[u8], attempts: &[u8], start: Run) -> Run
     requires { ⌜ IsState (now client) (start .client) × IsState (now service) (start .service) ⌝ }
-    ensures { λ r. ⌜ IsState (now (client .entry)) (r .client) × IsState (now (service .entry)) (r .service) ⌝ }
+    ensures { λ r. ⌜ (runOf r
+        ≡ runFrom (contractIn (now (client .entry))) (contractIn (now (service .entry))) (rowsIn (now (plan .entry))) (runOf start)
+        (attemptsIn (now (attempts .entry))))
+        × IsState (now (client .entry)) (r .client) × IsState (now (service .entry)) (r .service) ⌝ }
 {
     let mut run = start;
     let mut at: usize = 0;

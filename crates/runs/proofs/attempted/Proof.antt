@@ -1,9 +1,10 @@
--- `runs::attempted` is safe: where a move is made, its masks are ready sets and have what the code needs, so it is ready: `move-ready`.
--- Assumes nothing.
-use mathlib.Core.Path.{sym, _∙_}
-use mathlib.Core.Bool.{false≢true}
+-- `runs::attempted` meets its contract. Where the masks are a choice, the step is given and the need is met, the move is ready and is the
+-- model's; where one of the three fails, the model's run stays as it is too. Assumes nothing.
 use mathlib.Core.Logic.{⊎-elim}
+use borrow.Author.Tests.{eqb-true, eqb-false}
+use Rattle.runs.specs.Runs.{runOf}
 use Rattle.runs.proofs.Moving.{move-ready}
+use Rattle.runs.proofs.Attempting.{attempt-made, attempt-unmet, attempt-refused, attempt-unchosen}
 use borrow.Author.Needs.{needs}
 use Rattle.runs.proofs.attempted.Statement.{statement}
 use Rattle.runs.proofs.attempted.Tie as tie
@@ -11,11 +12,8 @@ use Rattle.runs.proofs.attempted.Tie as tie
 step-requires : tie.Need-step-requires
 step-requires c κs = search needs
 
-is-ready-requires : tie.Need-is-ready-requires
-is-ready-requires c κs = search needs
-
-is-ready-requires-2 : tie.Need-is-ready-requires-2
-is-ready-requires-2 c κs = search needs
+is-choice-requires : tie.Need-is-choice-requires
+is-choice-requires c κs = search needs
 
 need-met-requires : tie.Need-need-met-requires
 need-met-requires c κs = search needs
@@ -25,32 +23,52 @@ print-attempt-requires c κs = search needs
 
 moved-requires : tie.Need-moved-requires
 moved-requires c κs =
-    let given = c .before .before .before .before .before .before .before .before .before .before .before .before .pre in
-    let first = c .before .before .before .before .before .before .before .is-ready .ensures in
-    let chosen = c .before .before .before .before .before .if2 .taken in
-    let needed = sym (c .before .before .need-met .ensures) ∙ c .before .if4 .taken in
-    ⊎-elim
-    (λ w.
-    move-ready _ _ _ _ (given .0) (given .1) (sym first ∙ w .0 .taken) (sym (w .1 .ensures) ∙ sym (w .2) ∙ chosen) needed)
-    (λ w. absurd (false≢true (sym (w .0 .left) ∙ sym (w .1) ∙ chosen)))
-    (c .before .before .before .before .before .before .if1 .came)
+    let given = c .before .before .before .before .before .before .before .before .before .before .before .pre in
+    move-ready _ _ _ _ (given .0) (given .1)
+    (c .before .before .before .before .before .before .is-choice .ensures)
+    (c .before .before .before .before .before .if1 .taken)
+    (c .before .before .need-met .ensures)
+    (c .before .if3 .taken)
 
 returns : tie.Need-returns
-returns c = search needs
+unfolding runOf
+returns c =
+    let after = c .moved .ensures in
+    let made =
+    attempt-made _ _ _ _ _ _ _
+    (c .before .before .before .before .before .before .before .before .step .ensures)
+    (c .before .before .before .before .before .before .before .is-choice .ensures)
+    (c .before .before .before .before .before .before .if1 .taken)
+    (c .before .before .before .need-met .ensures)
+    (c .before .before .if3 .taken)
+    (eqb-true _ _ (c .before .before .before .before .if2 .taken))
+    (after .0) in
+    (made, after .1, after .2)
 
 print-attempt-requires-2 : tie.Need-print-attempt-requires-2
 print-attempt-requires-2 c κs = search needs
 
 returns-2 : tie.Need-returns-2
-returns-2 c = search needs
+unfolding runOf
+returns-2 c =
+    let given = c .before .before .before .before .before .before .before .pre in
+    let step = c .before .before .before .step .ensures in
+    let choice = c .before .before .is-choice .ensures in
+    let stays =
+    ⊎-elim
+    (λ w. attempt-unmet _ _ _ _ _ _ _ choice (w .0 .taken) (w .3 .ensures) (w .4 .left))
+    (⊎-elim
+    (λ w. attempt-refused _ _ _ _ _ _ _ step (eqb-false _ _ (w .2 .left)))
+    (λ w. attempt-unchosen _ _ _ _ _ _ _ choice (w .left)))
+    (c .before .if1 .came) in
+    (stays, given .0, given .1)
 
 pub attempted-spec : {M : Type 1} → statement M
 attempted-spec =
     tie.close
     (tie.spec
     step-requires
-    is-ready-requires
-    is-ready-requires-2
+    is-choice-requires
     need-met-requires
     print-attempt-requires
     moved-requires

@@ -1,21 +1,33 @@
--- `runs::followed` is safe and ends: the loop passes the attempts five bytes at a time, and the states stay states of the sheets.
--- Assumes nothing.
+-- `runs::followed` meets its contract: the loop passes the attempts five bytes at a time, and those that are left lead the run where all of
+-- them lead the start. Assumes nothing.
+use mathlib.Core.Path.{refl}
 use Prim.Native.Nat.{_≤_, _-_}
+use native.Mathlib.Omega.{arith}
 use lib.ListN.{length}
 use borrow.Author.Needs.{needs}
+use Rattle.model.specs.Bytes.{byte}
+use Rattle.model.specs.Sheet.{contractIn}
+use Rattle.model.specs.Plan.{rowsIn}
 use Rattle.sheet.specs.Whole.{IsState}
+use Rattle.runs.specs.Runs.{runOf}
+use Rattle.runs.proofs.Following.{Followed, followed-begin, followed-more, followed-end}
 use Rattle.runs.proofs.followed.Statement.{statement}
 use Rattle.runs.proofs.followed.Tie as tie
 
 abbrev Inv-loop : tie.InvT-loop
-Inv-loop client service plan attempts run₀ at₀ run at = (at ≤ length attempts) × IsState client (run .client) × IsState service
-    (run .service)
+Inv-loop client service plan attempts run₀ at₀ run at =
+    (at ≤ length attempts)
+    × Followed (contractIn client) (contractIn service) (rowsIn plan) attempts (runOf run₀) (runOf run) at
+    × IsState client (run .client)
+    × IsState service (run .service)
 
 abbrev μ-loop : tie.MeasureT-loop
 μ-loop client service plan attempts run₀ at₀ run at = length attempts - at
 
 loop-holds : tie.Need-loop-holds Inv-loop μ-loop
-loop-holds c = search needs
+loop-holds c =
+    let given = c .before .before .before .before .pre in
+    (omega arith, followed-begin _ _ _ _ _, given .0, given .1)
 
 sub-loop : tie.Need-sub-loop Inv-loop μ-loop
 sub-loop c = search needs
@@ -45,10 +57,22 @@ loop-less : tie.Need-loop-less Inv-loop μ-loop
 loop-less c = search needs
 
 loop-again : tie.Need-loop-again Inv-loop μ-loop
-loop-again c = search needs
+unfolding byte
+loop-again c =
+    let inv = c .before .before .before .before .before .loop .inv in
+    let first = c .before .before .before .word-at .ensures in
+    let second = c .before .before .word-at2 .ensures in
+    let after = c .attempted .ensures in (
+      omega arith,
+      followed-more _ _ _ _ _ (inv .1) (omega arith) first second refl (after .0),
+      after .1,
+      after .2,
+    )
 
 returns : tie.Need-returns Inv-loop μ-loop
-returns c = search needs
+returns c =
+    let inv = c .before .loop .inv in
+    (followed-end _ _ _ _ _ (inv .1) (omega arith), inv .2, inv .3)
 
 pub followed-spec : {M : Type 1} → statement M
 followed-spec =
