@@ -16,7 +16,7 @@ use Rattle.model.proofs.Attempts.{choice-elim}
 use Rattle.model.proofs.Weak.{offers-of}
 use Rattle.sheet.specs.Whole.{IsState}
 use Rattle.sheet.specs.Offer.{IsOffered}
-use Rattle.sheet.proofs.Whole.{successor-state}
+use Rattle.sheet.proofs.SuccessorAt.{successor-state}
 use Rattle.runs.specs.Runs.{runOf, GoOn, MoveReady}
 use Rattle.runs.specs.declared.Run.{Run}
 

@@ -6,6 +6,7 @@ pub mod Scan
 pub mod Reading
 pub mod Rows
 pub mod Whole
+pub mod SuccessorAt
 pub mod Answers
 pub mod RowAnswers
 pub mod SheetAnswers

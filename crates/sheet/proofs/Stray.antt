@@ -7,11 +7,12 @@ use Prim.Native.Nat.{ℕ, zero, suc, _+_, _*_, _/_, _%_, _^_, _<_, _≤_}
 use native.Mathlib.Nat.{div-div-eq-div-mul, pow-succ'}
 use native.Mathlib.Omega.{arith}
 use lib.Dec.{eqb, ltb, leb, leb·zero, leb·suc-zero, leb·suc-suc}
-use lib.Pow.{pow-pos, pow-add}
+use lib.Pow.{pow-pos}
 use borrow.Author.Tests.{le-ltb, le-leb, lt-leb, leb-true, leb-false}
 use Rattle.model.specs.Lists.{any, upto}
 use Rattle.model.specs.Contract.{has, name, takes, actions}
 use Rattle.model.specs.Sheet.{strayBit}
+use Rattle.model.proofs.Bits.{has-shift}
 use Rattle.sheet.proofs.Ones.{low-bits, has-lowest, has-half}
 
 any-same : {p q : ℕ → Bool} → ((i : ℕ) → p i ≡ q i) → (xs : List ℕ) → any p xs ≡ any q xs
@@ -71,9 +72,7 @@ unfolding name takes
 name-sent i = simp (le-ltb (7 + i) 7 (omega arith)) (omega arith)
 
 pub has-sent : (mask i : ℕ) → has mask (7 + i) ≡ has (mask / 128) i
-unfolding has
-has-sent mask i =
-    ap (λ (x : ℕ). eqb (x % 2) 1) (ap (λ (p : ℕ). mask / p) (pow-add 2 7 i) ∙ sym (div-div-eq-div-mul mask 128 (2 ^ i)))
+has-sent mask i = has-shift mask 7 i
 
 module _ (n mask : ℕ) where
   any-taken : any (λ j. has mask j && leb n (name j)) (upto 0 7) ≡ leb (2 ^ n) (mask % 128)

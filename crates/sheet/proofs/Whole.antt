@@ -44,22 +44,25 @@ trailer-stands t h =
 -- the sheet s stands in the bytes
 pub record SheetStands (b : List ℕ) (s : Sheet) : Type 0 where
   pub long : 6 ≤ length b
+  pub short : length b ≤ 2118
   pub numbers : TrailerStands (trailer b)
   pub ends : trailer b .index + 2 * trailer b .count + 6 ≡ length b
   pub names : trailer b .n ≡ s .contract .n
   pub role : trailer b .role ≡ s .role
   pub states : StatesStand b (trailer b) 0 (trailer b .count) (s .contract .states)
 
-stands : (b : List ℕ) (s : Sheet) → readSheet b ≡ good s → SheetStands b s
+pub stands : (b : List ℕ) (s : Sheet) → readSheet b ≡ good s → SheetStands b s
 unfolding readSheet
 stands b s h =
     let sizes = check-true _ _ _ h in
+    let size = both-true (leb 6 (length b)) (leb (length b) 2118) (sizes .0) in
     let numbers = check-true _ _ _ (sizes .1) in
     let ends = check-true _ _ _ (numbers .1) in
     let states = then-good _ _ (ends .1) in
     subst (SheetStands b) (good-injective (states .2))
     (record {
-      long = leb-true _ _ (both-true (leb 6 (length b)) (leb (length b) 2118) (sizes .0) .0);
+      long = leb-true _ _ (size .0);
+      short = leb-true _ _ (size .1);
       numbers = trailer-stands (trailer b) (numbers .0);
       ends = eqb-true _ _ (ends .0);
       names = refl;
@@ -67,13 +70,15 @@ stands b s h =
       states = states-stand b (trailer b) _ 0 0 (states .0) (states .1);
     })
 
+-- bytes that are a sheet are read as the sheet of that contract and role
+pub is-read : (b : List ℕ) → IsSheet b → readSheet b ≡ good (sheetOf (readSheet b))
+unfolding sheetOf
+is-read b (s, h) = h ∙ sym (ap (λ (r : Reading Fault Sheet). good (sheetOf r)) h)
+
 -- in bytes that are a sheet stands the sheet that the model reads
 pub sheet-stands : (b : List ℕ) → IsSheet b → SheetStands b (record { contract = contractIn b; role = roleIn b })
-unfolding contractIn roleIn sheetOf
-sheet-stands b (s, h) =
-    subst (λ (r : Reading Fault Sheet). SheetStands b (record { contract = sheetOf r .contract; role = sheetOf r .role }))
-    (sym h)
-    (stands b s h)
+unfolding contractIn roleIn
+sheet-stands b whole = stands b (sheetOf (readSheet b)) (is-read b whole)
 
 -- the contract in bytes that are a sheet is well formed
 pub sheet-formed : (b : List ℕ) → IsSheet b → WellFormed (contractIn b)
@@ -96,55 +101,25 @@ module _ (b : List ℕ) (whole : IsSheet b) where
 
 -- ---- the row of a state
 
+-- every state's row stands where the index says, with the state's ready sets and successors
+pub row-of : (b : List ℕ) (s : Sheet) → readSheet b ≡ good s → (q : ℕ) → q < length (s .contract .states)
+    → RowStands b (trailer b) (rowStart b q) (state (s .contract) q)
+unfolding rowStart state
+row-of b s h q l =
+    let rows = stands b s h .states in
+    subst (λ (k : ℕ). RowStands b (trailer b) (word b (trailer b .index + 2 * k)) (getD (s .contract .states) q nowhere)) (omega arith)
+    (rows .each q (omega (arith, rows .size)))
+
 abbrev stateIn : List ℕ → ℕ → State
 stateIn b q = state (contractIn b) q
 
 module _ {b : List ℕ} {q : ℕ} (at : IsState b q) where
-  -- the row of a state stands where the index says, with the state's ready sets and successors
   pub row-stands : RowStands b (trailer b) (rowStart b q) (stateIn b q)
-  unfolding rowStart state
-  row-stands =
-      subst
-      (λ (k : ℕ). RowStands b (trailer b) (word b (trailer b .index + 2 * k)) (getD (contractIn b .states) q nowhere))
-      (omega arith)
-      (sheet-stands b (at .sheet) .states .each q (omega (arith, count-is b (at .sheet), at .state)))
+  unfolding contractIn
+  row-stands = row-of b (sheetOf (readSheet b)) (is-read b (at .sheet)) q (at .state)
 
   pub row-within : rowStart b q + 1 + 2 * length (stateIn b q .ready) + length (stateIn b q .successors) ≤ length b
   row-within = omega (arith, row-stands .inside, sheet-stands b (at .sheet) .ends)
 
   pub entry-within : trailer b .index + 2 * q + 1 < length b
   entry-within = omega (arith, count-is b (at .sheet), sheet-stands b (at .sheet) .ends, at .state)
-
--- ---- an action that a state offers
-module _ {b : List ℕ} {q j : ℕ} (is : IsOffered b q j) where
-  place-within : onesBelow (unionOf (stateIn b q .ready)) j < length (stateIn b q .successors)
-  unfolding offers
-  place-within =
-      let bit = has-union (stateIn b q .ready) j ∙ is .offered in
-      omega (
-        arith,
-        row-stands (is .at) .offered,
-        ones-offered (stateIn b q .ready),
-        ones-less (unionOf (stateIn b q .ready)) j 14 bit
-            (is .action),
-      )
-
-  -- its successor stands behind the masks, at its place: the row's offset, 1, 2 for each ready set, and the lower actions offered
-  pub successor-within : {o : Offer} → o ≡ offerIn b q → placeIn o j < length b
-  unfolding offerIn placeIn
-  successor-within e = subst⁻¹ (λ (o : Offer). placeIn o j < length b) e (omega (arith, row-within (is .at), place-within))
-
-  pub successor-stands : {o : Offer} → o ≡ offerIn b q → byte b (placeIn o j) ≡ after (stateIn b q) j
-  unfolding after offerIn placeIn
-  successor-stands e =
-      ap (λ (o : Offer). byte b (placeIn o j)) e
-      ∙ row-stands (is .at) .successors _ place-within
-      ∙ ap (λ (k : ℕ). getD (stateIn b q .successors) k 0) (sym (ones-place (stateIn b q) j (omega (arith, is .action))))
-
-  -- its successor is a state
-  pub successor-state : {to : ℕ} → to ≡ after (stateIn b q) j → IsState b to
-  unfolding after
-  successor-state e =
-      let place = ones-place (stateIn b q) j (omega (arith, is .action)) in
-      let below = row-stands (is .at) .within _ place-within in
-      record { sheet = is .at .sheet; state = rw (e, place) (omega (arith, count-is b (is .at .sheet), below)) }

@@ -1,9 +1,9 @@
 // Contract sheets: whether bytes are a sheet, and what stands in one. Document 01, "Contracts as sheets".
 ghost use mathlib.Core.Path.{_≡_};
-ghost use Prim.Native.Nat.{_≤_, _<_};
+ghost use Prim.Native.Nat.{_^_, _≤_, _<_};
 ghost use lib.ListN.{length, getD};
 ghost use Rattle.model.specs.Bytes.{byte};
-ghost use Rattle.model.specs.Contract.{partner, state, has, offers, after};
+ghost use Rattle.model.specs.Contract.{partner, state, has, after};
 ghost use Rattle.model.specs.Sheet.{rowStart, readSheet, contractIn, roleIn};
 ghost use Rattle.sheet.specs.Union.{unionOf, onesBelow};
 ghost use Rattle.sheet.specs.Answers.{findingOf};
@@ -87,6 +87,14 @@ pub fn name_count(b: &[u8]) -> u8
     read_trailer(b).n
 }
 
+// How many states a sheet has.
+pub fn state_count(b: &[u8]) -> u8
+    requires { ⌜ IsSheet (now b) ⌝ }
+    ensures { λ r. ⌜ r ≡ length (contractIn (now (b .entry)) .states) ⌝ }
+{
+    read_trailer(b).count
+}
+
 // A sheet's role: 0 service, 1 client.
 pub fn role(b: &[u8]) -> u8
     requires { ⌜ IsSheet (now b) ⌝ }
@@ -136,14 +144,6 @@ fn offered(b: &[u8], q: u8) -> u16
     union
 }
 
-// Whether state q offers action j.
-pub fn offers_action(b: &[u8], q: u8, j: u8) -> bool
-    requires { ⌜ IsState (now b) q × (j < 14) ⌝ }
-    ensures { λ r. ⌜ r ≡ offers (state (contractIn (now (b .entry))) q) j ⌝ }
-{
-    has_bit(offered(b, q), j)
-}
-
 // What state q offers.
 pub fn offer_of(b: &[u8], q: u8) -> Offer
     requires { ⌜ IsState (now b) q ⌝ }
@@ -155,13 +155,20 @@ pub fn offer_of(b: &[u8], q: u8) -> Offer
     }
 }
 
+// Where the successor of action j stands, by what its state offers.
+pub fn place_in(offer: Offer, j: u8) -> usize
+    requires { ⌜ (j ≤ 16) × (placeIn offer j < 2 ^ 64) ⌝ }
+    ensures { λ r. ⌜ r ≡ placeIn offer j ⌝ }
+{
+    offer.successors + ones_below(offer.actions, j)
+}
+
 // The successor of action j, where it stands among those of an offer.
 pub fn successor_in(b: &[u8], offer: Offer, j: u8) -> u8
     requires { ⌜ (j ≤ 16) × (placeIn offer j < length (now b)) ⌝ }
     ensures { λ r. ⌜ r ≡ byte (now (b .entry)) (placeIn offer j) ⌝ }
 {
-    let at = offer.successors + ones_below(offer.actions, j);
-    b[at]
+    b[place_in(offer, j)]
 }
 
 // The state that state q goes on to by an action j that it offers.

@@ -2,7 +2,7 @@
 -- Assumes nothing.
 use mathlib.Core.Path.{_∙_}
 use native.Mathlib.Omega.{arith}
-use Rattle.sheet.proofs.Whole.{successor-within, successor-stands}
+use Rattle.sheet.proofs.SuccessorAt.{successor-within, successor-stands}
 use Rattle.sheet.proofs.successor.Statement.{statement}
 use Rattle.sheet.proofs.successor.Tie as tie
 

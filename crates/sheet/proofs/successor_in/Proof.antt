@@ -1,32 +1,20 @@
--- `sheet::successor_in` meets its contract: the place is where the successors begin, and as many on as there are lower actions.
+-- `sheet::successor_in` meets its contract: the byte at the place is read.
 -- Assumes nothing.
 use mathlib.Core.Path.{ap}
-use Prim.Native.Nat.{ℕ, _+_}
-use native.Mathlib.Omega.{arith}
-use lib.ListN.{getD}
 use borrow.Author.Needs.{needs}
 use Rattle.model.specs.Bytes.{byte}
-use Rattle.sheet.specs.Offer.{placeIn}
 use Rattle.sheet.proofs.successor_in.Statement.{statement}
 use Rattle.sheet.proofs.successor_in.Tie as tie
 
-ones-below-requires : tie.Need-ones-below-requires
-ones-below-requires c κs = search needs
-
-add-at : tie.Need-add-at
-unfolding placeIn
-add-at c = omega (arith, c .before .ones-below .ensures)
+place-in-requires : tie.Need-place-in-requires
+place-in-requires c κs = search needs
 
 shared-slice-read-result : tie.Need-shared-slice-read-result
-unfolding placeIn
-shared-slice-read-result c = omega (arith, c .before .before .ones-below .ensures)
+shared-slice-read-result c = search needs
 
 returns : tie.Need-returns
-unfolding byte placeIn
-returns c =
-    let s = c .before .before .before .before in
-    ap (λ (n : ℕ). getD (s .args .b .now) (s .args .offer .successors + n) 0) (c .before .before .ones-below .ensures)
+unfolding byte
+returns c = ap (byte (c .before .before .before .args .b .now)) (c .before .place-in .ensures)
 
 pub successor-in-spec : {M : Type 1} → statement M
-successor-in-spec =
-    tie.close (tie.spec ones-below-requires add-at shared-slice-read-result returns)
+successor-in-spec = tie.close (tie.spec place-in-requires shared-slice-read-result returns)
