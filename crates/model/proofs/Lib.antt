@@ -43,6 +43,7 @@ pub mod Standstill
 pub mod RunCases
 pub mod Codes
 pub mod Masks
+pub mod LowestBit
 pub mod Moves
 pub mod Ranges
 pub mod Loops

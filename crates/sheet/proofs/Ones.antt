@@ -4,7 +4,7 @@ use mathlib.Core.Path.{_≡_, refl, sym, ap, _∙_}
 use mathlib.Core.Bool.{Bool, true, false, cond, _&&_}
 use mathlib.Core.List.{List, [], _∷_}
 use Prim.Native.Nat.{ℕ, zero, suc, _+_, _*_, _/_, _%_, _^_, _<_, _≤_}
-use native.Mathlib.Nat.{div-one, div-div-eq-div-mul, mod-eq-of-lt, one-mul, pow-suc, pow-succ', pow-le-pow-right}
+use native.Mathlib.Nat.{mod-eq-of-lt, one-mul, pow-suc, pow-le-pow-right}
 use native.Mathlib.Omega.{arith}
 use lib.Dec.{eqb, ltb, leb·suc-suc}
 use lib.ListN.{length}
@@ -15,18 +15,9 @@ use lib.Count.{ones-step as digits-step}
 use borrow.Author.Tests.{lt-ltb, le-ltb, eqb-true}
 use Rattle.model.specs.Lists.{keep, upto}
 use Rattle.model.specs.Contract.{State, has, actions, offersIn, offers, offeredBelow}
+use Rattle.model.proofs.Masks.{has-zero, has-suc}
 use Rattle.sheet.specs.Union.{unionOf, onesBelow}
 use Rattle.sheet.proofs.Union.{has-union}
-
-pub has-lowest : (mask : ℕ) → has mask 0 ≡ eqb (mask % 2) 1
-unfolding has
-has-lowest mask = ap (λ (x : ℕ). eqb (x % 2) 1) (div-one mask)
-
-pub has-half : (mask j : ℕ) → has mask (suc j) ≡ has (mask / 2) j
-unfolding has
-has-half mask j =
-    ap (λ (x : ℕ). eqb (x % 2) 1)
-    (ap (λ (p : ℕ). mask / p) (pow-succ' 2 j) ∙ sym (div-div-eq-div-mul mask 2 (2 ^ j)))
 
 -- the lowest bits of a mask: those of its half, and the lowest
 pub low-bits : (mask c : ℕ) → mask % 2 ^ suc c ≡ 2 * (mask / 2 % 2 ^ c) + mask % 2
@@ -87,9 +78,9 @@ ones-step : (mask j : ℕ) → onesBelow mask (suc j) ≡ mask % 2 + onesBelow (
 unfolding onesBelow keep upto
 ones-step mask j =
     let rest = keep (has mask) (upto 1 j) in
-    ap (λ (t : Bool). length (cond t (0 ∷ rest) rest)) (has-lowest mask)
+    ap (λ (t : Bool). length (cond t (0 ∷ rest) rest)) (has-zero mask)
     ∙ count-bit (mask % 2) rest (omega arith)
-    ∙ ap (λ (n : ℕ). mask % 2 + n) (count-next (has mask) 0 j ∙ ap length (keep-same (has-half mask) (upto 0 j)))
+    ∙ ap (λ (n : ℕ). mask % 2 + n) (count-next (has mask) 0 j ∙ ap length (keep-same (has-suc mask) (upto 0 j)))
 
 ones-none : (mask j : ℕ) → j ≤ 0 → onesBelow mask j ≡ 0
 unfolding onesBelow keep upto
@@ -119,13 +110,13 @@ ones-low mask (suc j) =
 pub ones-less : (mask j k : ℕ) → has mask j ≡ true → j < k → onesBelow mask j < onesBelow mask k
 ones-less mask j zero h l = absurd (omega arith)
 ones-less mask zero (suc k) h l =
-    omega (arith, ones-none mask 0 (omega arith), ones-step mask k, eqb-true (mask % 2) 1 (sym (has-lowest mask) ∙ h))
+    omega (arith, ones-none mask 0 (omega arith), ones-step mask k, eqb-true (mask % 2) 1 (sym (has-zero mask) ∙ h))
 ones-less mask (suc j) (suc k) h l =
     omega (
       arith,
       ones-step mask j,
       ones-step mask k,
-      ones-less (mask / 2) j k (sym (has-half mask j) ∙ h)
+      ones-less (mask / 2) j k (sym (has-suc mask j) ∙ h)
           (omega arith),
     )
 

@@ -13,7 +13,8 @@ use Rattle.model.specs.Lists.{any, upto}
 use Rattle.model.specs.Contract.{has, name, takes, actions}
 use Rattle.model.specs.Sheet.{strayBit}
 use Rattle.model.proofs.Bits.{has-shift}
-use Rattle.sheet.proofs.Ones.{low-bits, has-lowest, has-half}
+use Rattle.model.proofs.Masks.{has-zero, has-suc}
+use Rattle.sheet.proofs.Ones.{low-bits}
 
 any-same : {p q : ℕ → Bool} → ((i : ℕ) → p i ≡ q i) → (xs : List ℕ) → any p xs ≡ any q xs
 unfolding any
@@ -45,9 +46,9 @@ bits-from zero n mask = sym (lt-leb (2 ^ n) (mask % 1) (omega (arith, pow-pos n)
 bits-from (suc c) zero mask =
     let rest =
     any-next (λ i. has mask i && leb 0 i) 0 c
-    ∙ any-same (λ i. ap₂ _&&_ (has-half mask i) (leb·zero (suc i) ∙ sym (leb·zero i))) (upto 0 c)
+    ∙ any-same (λ i. ap₂ _&&_ (has-suc mask i) (leb·zero (suc i) ∙ sym (leb·zero i))) (upto 0 c)
     ∙ bits-from c 0 (mask / 2) in
-    ap₂ (λ (x y : Bool). x && true || y) (has-lowest mask) rest
+    ap₂ (λ (x y : Bool). x && true || y) (has-zero mask) rest
     ∙ some-bit (mask % 2) (mask / 2 % 2 ^ c) (omega arith)
     ∙ ap (leb 1) (sym (low-bits mask c))
 bits-from (suc c) (suc n) mask =
@@ -55,7 +56,7 @@ bits-from (suc c) (suc n) mask =
     ap (λ (t : Bool). has mask 0 && t) (leb·suc-zero n) ∙ and-false (has mask 0) in
     let rest =
     any-next (λ i. has mask i && leb (suc n) i) 0 c
-    ∙ any-same (λ i. ap₂ _&&_ (has-half mask i) (leb·suc-suc n i)) (upto 0 c)
+    ∙ any-same (λ i. ap₂ _&&_ (has-suc mask i) (leb·suc-suc n i)) (upto 0 c)
     ∙ bits-from c n (mask / 2) in
     ap₂ _||_ none rest
     ∙ leb-same (2 ^ n) (mask / 2 % 2 ^ c) (2 ^ suc n) (mask % 2 ^ suc c)

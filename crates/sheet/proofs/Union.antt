@@ -3,8 +3,7 @@
 use mathlib.Core.Path.{_≡_, sym, ap, _∙_}
 use mathlib.Core.Bool.{Bool, false, _||_, or-false, or-assoc}
 use mathlib.Core.List.{List, [], _∷_}
-use Prim.Native.Nat.{ℕ, _+_, _^_, _<_, _≤_}
-use native.Mathlib.Nat.{zero-div}
+use Prim.Native.Nat.{ℕ, _+_, _<_, _≤_}
 use native.Mathlib.Numerals.{add-one}
 use lib.Bits.{bitOr}
 use lib.ListN.{length, getD, drop, drop-of-length-le}
@@ -12,6 +11,7 @@ use lib.Seq.{drop-cons}
 use Rattle.model.specs.Lists.{any}
 use Rattle.model.specs.Contract.{has, offersIn}
 use Rattle.model.proofs.Bits.{has-or}
+use Rattle.model.proofs.Masks.{has-none}
 use Rattle.sheet.specs.Union.{unionFrom, unionOf}
 
 has-union-from : (union : ℕ) (masks : List ℕ) (j : ℕ)
@@ -22,10 +22,6 @@ has-union-from union (mask ∷ masks) j =
     has-union-from (bitOr union mask) masks j
     ∙ ap (λ (x : Bool). x || offersIn masks j) (has-or union mask j)
     ∙ or-assoc (has union j) (has mask j) (offersIn masks j)
-
-has-none : (j : ℕ) → has 0 j ≡ false
-unfolding has
-has-none j = rw (zero-div (2 ^ j))
 
 -- a state offers what is in the union of its ready sets
 pub has-union : (masks : List ℕ) (j : ℕ) → has (unionOf masks) j ≡ offersIn masks j

@@ -8,16 +8,14 @@ use native.Mathlib.Omega.{arith}
 use lib.Dec.{leb}
 use lib.ListN.{length, getD}
 use borrow.Author.Tests.{leb-true, eqb-true}
-use Rattle.model.specs.Bytes.{byte, word}
-use Rattle.model.specs.Contract.{State, state, nowhere, has, offers, after}
+use Rattle.model.specs.Bytes.{word}
+use Rattle.model.specs.Contract.{State, state, nowhere, has, offers}
 use Rattle.model.specs.Sheet.{Reading, Fault, Trailer, Sheet, good, trailer, goodTrailer, rowStart, readSheet, sheetOf, contractIn, roleIn}
 use Rattle.model.proofs.Sheet.{WellFormed, good-injective, then-good, sheet-well-formed}
-use Rattle.sheet.specs.Union.{unionOf, onesBelow}
 use Rattle.sheet.specs.Whole.{IsSheet, IsState}
-use Rattle.sheet.specs.Offer.{offerIn, placeIn, IsOffered}
+use Rattle.sheet.specs.Offer.{offerIn}
 use Rattle.sheet.specs.declared.Offer.{Offer}
 use Rattle.sheet.proofs.Union.{has-union}
-use Rattle.sheet.proofs.Ones.{ones-offered, ones-less, ones-place}
 use Rattle.sheet.proofs.Reading.{check-true, both-true}
 use Rattle.sheet.proofs.Rows.{RowStands, StatesStand, states-stand}
 
