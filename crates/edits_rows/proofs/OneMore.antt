@@ -10,15 +10,14 @@ use lib.Dec.{T, eqb, eqb→eq, eqb-refl}
 use borrow.Author.Tests.{ne-eqb}
 use Rattle.model.specs.Contract.{has}
 use Rattle.model.specs.Situation.{kindOf, codes}
-use Rattle.model.proofs.Bits.{has-or}
 use Rattle.model.proofs.Lists.{test-alike}
-use Rattle.model.proofs.Masks.{has-power, power-has}
+use Rattle.model.proofs.Masks.{has-more}
 use Rattle.model.proofs.Situation.{code-elim, kind-straight, kind-client, kind-service}
 use Rattle.moves.specs.declared.Present.{Present}
 use Rattle.moves.specs.Present.{presentBy}
 use Rattle.edits_rows.specs.Rows.{WithCode}
 
--- ---- one bit more
+-- ---- one bit more, in its range
 
 or-swap : (a b : Bool) → (a || b) ≡ (b || a)
 or-swap true true = refl
@@ -26,24 +25,14 @@ or-swap true false = refl
 or-swap false true = refl
 or-swap false false = refl
 
-has-more : (mask i : ℕ) {bit : ℕ} → bit ≡ 2 ^ i → (j : ℕ) → has (bitOr mask bit) j ≡ (eqb j i || has mask j)
-has-more mask i e j =
-    ap (λ (x : ℕ). has (bitOr mask x) j) e
-    ∙ has-or mask (2 ^ i) j
-    ∙ or-swap (has mask j) (has (2 ^ i) j)
-    ∙ ap (λ (t : Bool). t || has mask j) (test-alike (has (2 ^ i) j) (eqb j i) there back)
-  where
-    there : T (has (2 ^ i) j) → T (eqb j i)
-    there t = rw (power-has i j t) (eqb-refl i)
-
-    back : T (eqb j i) → T (has (2 ^ i) j)
-    back t = rw (eqb→eq j i t) (has-power i)
-
 -- a code of a range that begins at low, and one of another range
 in-range : (low mask i code : ℕ) {bit : ℕ} → bit ≡ 2 ^ i → code ≡ low + i → (j : ℕ)
     → has (bitOr mask bit) j ≡ (eqb (low + j) code || has mask j)
 in-range low mask i code b e j =
-    rw e (has-more mask i b j ∙ ap (λ (t : Bool). t || has mask j) (test-alike (eqb j i) (eqb (low + j) (low + i)) there back))
+    rw e
+    (has-more mask i b j
+    ∙ or-swap (has mask j) (eqb j i)
+    ∙ ap (λ (t : Bool). t || has mask j) (test-alike (eqb j i) (eqb (low + j) (low + i)) there back))
   where
     there : T (eqb j i) → T (eqb (low + j) (low + i))
     there t = rw (eqb→eq j i t) (eqb-refl (low + i))
@@ -65,7 +54,7 @@ module _ (p : Present) (code : ℕ) {bit : ℕ} where
         each = code-elim
             (λ (c : ℕ). presentBy (record { straight = bitOr (p .straight) bit; client = p .client; service = p .service }) (kindOf c)
             ≡ (eqb c code || presentBy p (kindOf c)))
-            (λ j h. rw (kind-straight j h) (has-more (p .straight) code e j))
+            (λ j h. rw (kind-straight j h) (has-more (p .straight) code e j ∙ or-swap (has (p .straight) j) (eqb j code)))
             (λ j h. rw (kind-client j h) (apart (16 + j) code (has (p .client) j) (λ d. omega arith)))
             (λ j h. rw (kind-service j h) (apart (32 + j) code (has (p .service) j) (λ d. omega arith)));
       }

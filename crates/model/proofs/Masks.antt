@@ -6,14 +6,15 @@ use mathlib.Core.List.{List, [], _∷_}
 use Prim.Native.Nat.{ℕ, zero, suc, _+_, _*_, _/_, _%_, _^_, _<_}
 use native.Mathlib.Omega.{arith}
 use native.Mathlib.Nat.{pow-suc, zero-div, zero-mod}
-use lib.Dec.{T, eqb}
+use lib.Dec.{T, eqb, eqb→eq, eqb-refl}
 use lib.Arith.{mod-mul}
-use lib.Bits.{bitAnd}
+use lib.Bits.{bitAnd, bitOr}
 use lib.Pow.{pow-pos, shr-shr}
 use borrow.Author.Tests.{eq-eqb, ne-eqb, eqb-true, eqb-false}
 use Rattle.model.specs.Lists.{any, all, upto}
 use Rattle.model.specs.Contract.{has}
-use Rattle.model.proofs.Bits.{has-and}
+use Rattle.model.proofs.Bits.{has-and, has-or}
+use Rattle.model.proofs.Lists.{test-alike}
 
 -- ---- tests of a range of numbers
 
@@ -80,6 +81,19 @@ power-has (suc i) zero t =
     let u : T (eqb 0 1) = rw (has-zero (2 ^ suc i), even-power i) at t in
     absurd u
 power-has (suc i) (suc j) t = ap suc (power-has i j (rw (has-suc (2 ^ suc i) j, half-power i) at t))
+
+-- a mask with one bit more
+pub has-more : (mask i : ℕ) {bit : ℕ} → bit ≡ 2 ^ i → (j : ℕ) → has (bitOr mask bit) j ≡ (has mask j || eqb j i)
+has-more mask i e j =
+    ap (λ (x : ℕ). has (bitOr mask x) j) e
+    ∙ has-or mask (2 ^ i) j
+    ∙ ap (λ (t : Bool). has mask j || t) (test-alike (has (2 ^ i) j) (eqb j i) there back)
+  where
+    there : T (has (2 ^ i) j) → T (eqb j i)
+    there t = rw (power-has i j t) (eqb-refl i)
+
+    back : T (eqb j i) → T (has (2 ^ i) j)
+    back t = rw (eqb→eq j i t) (has-power i)
 
 low-step : (n a : ℕ) → a % 2 ^ suc n ≡ (a / 2 % 2 ^ n) * 2 + a % 2
 low-step n a = ap (λ (m : ℕ). a % m) (pow-suc 2 n) ∙ mod-mul a (pow-pos n) (omega arith)

@@ -64,7 +64,7 @@ bits-from (suc c) (suc n) mask =
     (λ l. omega (arith, low-bits mask c, pow-succ' 2 n))
 
 -- ---- the three parts of a mask
-pub any-halves : (p : ℕ → Bool) → any p actions ≡ (any p (upto 0 7) || any (λ i. p (7 + i)) (upto 0 7))
+any-halves : (p : ℕ → Bool) → any p actions ≡ (any p (upto 0 7) || any (λ i. p (7 + i)) (upto 0 7))
 unfolding any upto actions
 any-halves p = simp or-assoc
 
@@ -72,7 +72,7 @@ name-sent : (i : ℕ) → name (7 + i) ≡ i
 unfolding name takes
 name-sent i = simp (le-ltb (7 + i) 7 (omega arith)) (omega arith)
 
-pub has-sent : (mask i : ℕ) → has mask (7 + i) ≡ has (mask / 128) i
+has-sent : (mask i : ℕ) → has mask (7 + i) ≡ has (mask / 128) i
 has-sent mask i = has-shift mask 7 i
 
 module _ (n mask : ℕ) where
