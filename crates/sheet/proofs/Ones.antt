@@ -4,13 +4,14 @@ use mathlib.Core.Path.{_≡_, refl, sym, ap, _∙_}
 use mathlib.Core.Bool.{Bool, true, false, cond, _&&_}
 use mathlib.Core.List.{List, [], _∷_}
 use Prim.Native.Nat.{ℕ, zero, suc, _+_, _*_, _/_, _%_, _^_, _<_, _≤_}
-use native.Mathlib.Nat.{mod-eq-of-lt, one-mul, pow-suc, pow-le-pow-right}
+use native.Mathlib.Nat.{mod-eq-of-lt, one-mul, mul-le-mul, mul-le-mul-left, pow-suc, pow-le-pow-right}
 use native.Mathlib.Omega.{arith}
 use lib.Dec.{eqb, ltb, leb·suc-suc}
 use lib.ListN.{length}
 use lib.Arith.{mod-mul}
 use lib.Pow.{pow-pos}
-use lib.Count.{ones, ones-ones}
+use lib.Bits.{bitAnd, and-le-l}
+use lib.Count.{ones, ones-ones, ones-le}
 use lib.Count.{ones-step as digits-step}
 use borrow.Author.Tests.{lt-ltb, le-ltb, eqb-true}
 use Rattle.model.specs.Lists.{keep, upto}
@@ -28,6 +29,18 @@ low-bits mask c =
 pub one-shifted : (n most : ℕ) {width : ℕ} → n ≤ most → 2 ^ most < width → 1 * 2 ^ n % width ≡ 2 ^ n
 one-shifted n most {width} h l =
     ap (λ (x : ℕ). x % width) (one-mul (2 ^ n)) ∙ mod-eq-of-lt (omega (arith, pow-le-pow-right {n = 2} (omega arith) h))
+
+-- and any number but 0 so shifted is not 0
+pub some-shifted : (a n most : ℕ) {width : ℕ} → 1 ≤ a → n ≤ most → a * 2 ^ most < width → 1 ≤ a * 2 ^ n % width
+some-shifted a n most {width} some h l =
+    let high : a * 2 ^ n ≤ a * 2 ^ most = mul-le-mul-left a (pow-le-pow-right {n = 2} (omega arith) h) in
+    let low : 1 * 1 ≤ a * 2 ^ n = mul-le-mul some (pow-pos n) in
+    let within : a * 2 ^ n < width = omega arith in
+    rw (mod-eq-of-lt within) (omega arith)
+
+-- a part of a mask has at most 16 bits
+pub ones-within : (mask part : ℕ) → mask < 65536 → ones (bitAnd mask part) ≤ 16
+ones-within mask part h = ones-le 16 (bitAnd mask part) (omega (arith, and-le-l mask part))
 
 -- ---- counts of what passes a test
 module _ {p q : ℕ → Bool} (same : (i : ℕ) → p i ≡ q i) where

@@ -2,13 +2,13 @@
 -- Assumes nothing.
 use mathlib.Core.Path.{_≡_, ap, _∙_}
 use Prim.Native.Nat.{ℕ, _-_, _*_, _%_, _^_, _≤_}
+use native.Mathlib.Nat.{lt-of-le-of-lt}
 use native.Mathlib.Omega.{arith}
 use lib.Bits.{bitAnd, and-mask}
 use lib.Count.{ones}
-use lib.Pow.{pow-pos}
 use borrow.Author.Needs.{needs}
 use Rattle.sheet.specs.Union.{onesBelow}
-use Rattle.sheet.proofs.Ones.{one-shifted, ones-low, ones-few}
+use Rattle.sheet.proofs.Ones.{one-shifted, some-shifted, ones-within, ones-low}
 use Rattle.sheet.proofs.ones_below.Statement.{statement}
 use Rattle.sheet.proofs.ones_below.Tie as tie
 
@@ -21,10 +21,10 @@ shl-below : tie.Need-shl-below
 shl-below c = search needs
 
 sub-below : tie.Need-sub-below
-sub-below c = omega (arith, one-shifted (c .args .j) 16 {width = 4294967296} (c .pre) (omega arith), pow-pos (c .args .j))
+sub-below c = some-shifted _ _ 16 (omega arith) (c .pre) (omega arith)
 
 cast-result : tie.Need-cast-result
-cast-result c = omega (arith, counted (c .args .mask) (c .args .j) (c .pre), ones-few (c .args .mask) (c .args .j))
+cast-result c = record { fits = lt-of-le-of-lt {m = 16} (ones-within (c .args .mask) _ (omega arith)) (omega arith) }
 
 returns : tie.Need-returns
 returns c = counted (c .args .mask) (c .args .j) (c .pre)
