@@ -40,7 +40,7 @@ successor-at b s h q l j a o =
     let few = below-few b _ _ (state (s .contract) q) row j a o in
     (sym (row .successors _ few), omega (arith, few, row .inside, stands b s h .ends))
 
--- ---- the same by what a state offers
+-- ---- the theorem by what a state offers, as lookups cite it
 
 -- the place that an offer says is the theorem's
 place-is : (b : List ℕ) (q j : ℕ) → j ≤ 14 → placeIn (offerIn b q) j ≡ successorPlace (rowStart b q) (state (contractIn b) q) j

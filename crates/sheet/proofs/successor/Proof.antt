@@ -1,4 +1,4 @@
--- `sheet::successor` meets its contract: the successor of an offered action stands at its place in the row.
+-- `sheet::successor` meets its contract: by `successor-at` the successor of an offered action is the byte at the place of the offer.
 -- Assumes nothing.
 use mathlib.Core.Path.{_∙_}
 use native.Mathlib.Omega.{arith}
