@@ -57,7 +57,7 @@ module _ (k : ℕ) (old : List ℕ) (count rounds : ℕ) (ys : List Record) {sta
     (unnumbered : UnnumberedTable count ys)
     (into : NumberedInto count (statesAt count ys) states ys ys′) where
   pub numbered-states : NumberedTable count states ys′
-  numbered-states = numbered-table ys (unnumbered .settled) into
+  numbered-states = numbered-table ys (unnumbered .sifted) into
 
   abbrev rows : List (List Move)
   rows = keptRowsAt count ys

@@ -12,7 +12,7 @@ use Rattle.model.specs.Lists.{any, keep, upto}
 use Rattle.model.specs.Contract.{Contract}
 use Rattle.model.specs.Situation.{codes}
 use Rattle.model.specs.Search.{member}
-use Rattle.model.specs.Rounds.{Settled}
+use Rattle.model.specs.Rounds.{Sifted}
 use Rattle.model.specs.Plan.{planRows}
 use Rattle.model.specs.Sheet.{contractIn}
 use Rattle.model.specs.Connect.{Outcome, counted, emitted}
@@ -23,8 +23,8 @@ use Rattle.table.specs.Records.{blank}
 use Rattle.table.specs.Lists.{keysOf, linksOf, marksOf, presentOf}
 use Rattle.table.specs.States.{SearchedTable}
 use Rattle.table.proofs.Lists.{marks-at, numbers-at}
-use Rattle.lists.specs.Settled.{settledIn, SettledDone}
-use Rattle.rounds.specs.Work.{SettledWork}
+use Rattle.lists.specs.Sifted.{siftedIn, SiftedDone}
+use Rattle.rounds.specs.Work.{SiftedWork}
 use Rattle.lists.specs.Kept.{keptRows}
 use Rattle.numbering.specs.Table.{keptRowsAt, UnnumberedTable}
 use Rattle.connect.specs.Answers.{answerOf, counting, Writes}
@@ -57,9 +57,9 @@ start-unmarked marks (suc count) h = go (eqb (getD marks 0 0) 0)
 -- ---- the rounds decide
 
 module _ (k : ℕ) (σ τ : Contract) (keys links : List ℕ) (count room rounds : ℕ) (marks marks′ : List ℕ)
-    (done : SettledDone σ τ keys links count rounds marks marks′) (some : 0 < count) where
-  abbrev left : Settled ℕ
-  left = settledIn σ τ keys links count
+    (done : SiftedDone σ τ keys links count rounds marks marks′) (some : 0 < count) where
+  abbrev left : Sifted ℕ
+  left = siftedIn σ τ keys links count
 
   start-stays : member eqb 0 (left .kept) ≡ eqb (getD marks′ 0 0) 0
   start-stays = ap (member eqb 0) (sym (done .kept-are)) ∙ start-unmarked marks′ count some
@@ -80,9 +80,9 @@ module _ (k : ℕ) (σ τ : Contract) (keys links : List ℕ) (count room rounds
 
 module _ (k : ℕ) (old new : List ℕ) (count rounds : ℕ) (ys : List Record) {ys′ : List Record} (searched : SearchedTable old new count ys)
     (some : 0 < count)
-    (settled : SettledWork (contractIn old) (contractIn new) count rounds ys ys′) where
+    (sifted : SiftedWork (contractIn old) (contractIn new) count rounds ys ys′) where
   pub start-there : 0 < length ys′
-  start-there = omega (arith, searched .situated .room, settled .size)
+  start-there = omega (arith, searched .situated .room, sifted .size)
 
   module _ {y : Record} (y-is : y ≡ getD ys′ 0 blank) where
     start-mark : getD (marksOf ys′) 0 0 ≡ y .mark
@@ -94,7 +94,7 @@ module _ (k : ℕ) (old new : List ℕ) (count rounds : ℕ) (ys : List Record) 
     relate-removed n r plan a =
         subst⁻¹ (λ (o : Outcome). Writes o r plan plan)
         (related-removed k (contractIn old) (contractIn new) (keysOf ys) (linksOf ys) count (length plan) rounds (marksOf ys) (marksOf ys′)
-        (settled .done) some (λ e. n (sym start-mark ∙ e)))
+        (sifted .done) some (λ e. n (sym start-mark ∙ e)))
         (writes-none 12 count 0 rounds r plan a)
 
     module _ (kept : y .mark ≡ 0) where
@@ -102,16 +102,16 @@ module _ (k : ℕ) (old new : List ℕ) (count rounds : ℕ) (ys : List Record) 
       pub emit-needs : UnnumberedTable count ys′
       emit-needs =
           record {
-            settled = record {
+            sifted = record {
               some-situation = some;
               few = searched .situated .few;
-              room = omega (arith, searched .situated .room, settled .size);
-              links-within = subst⁻¹ (LinksWithin count) (settled .links) (searched .situated .links-within);
+              room = omega (arith, searched .situated .room, sifted .size);
+              links-within = subst⁻¹ (LinksWithin count) (sifted .links) (searched .situated .links-within);
               start-kept = start-mark ∙ kept;
-              masks = subst⁻¹ (λ (links : List ℕ). MasksLeft count links (marksOf ys′) (presentOf ys′)) (settled .links) (settled .masks);
+              masks = subst⁻¹ (λ (links : List ℕ). MasksLeft count links (marksOf ys′) (presentOf ys′)) (sifted .links) (sifted .masks);
             };
             none = λ i h.
-                ap (λ (numbers : List ℕ). getD numbers i 0) (settled .numbers)
+                ap (λ (numbers : List ℕ). getD numbers i 0) (sifted .numbers)
                 ∙ numbers-at ys i (omega (arith, searched .situated .room)) ∙ searched .unnumbered i h;
           }
 
@@ -122,7 +122,7 @@ module _ (k : ℕ) (old new : List ℕ) (count rounds : ℕ) (ys : List Record) 
       relate-kept r plan plan′ w =
           subst⁻¹ (λ (o : Outcome). Writes o r plan plan′)
           (related-kept k (contractIn old) (contractIn new) (keysOf ys) (linksOf ys) count (length plan) rounds (marksOf ys) (marksOf ys′)
-          (settled .done) some (start-mark ∙ kept))
+          (sifted .done) some (start-mark ∙ kept))
           (subst (λ (links : List ℕ). Writes
           (emitted (contractIn old .n) k (length plan) count rounds (keptRows links (marksOf ys′) count)) r plan plan′)
-          (settled .links) w)
+          (sifted .links) w)

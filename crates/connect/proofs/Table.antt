@@ -16,19 +16,19 @@ use Rattle.model.specs.Contract.{Contract}
 use Rattle.model.specs.Situation.{Situation, start, alike, same, codes, next}
 use Rattle.model.specs.Test.{test}
 use Rattle.model.specs.Search.{at-start, Search, member, addAll, search, searchFrom}
-use Rattle.model.specs.Rounds.{Settled, settled}
+use Rattle.model.specs.Rounds.{Sifted, sifted}
 use Rattle.model.specs.Plan.{planRows}
-use Rattle.model.specs.Connect.{settledOf, rowsFor, counted, emitted, related}
+use Rattle.model.specs.Connect.{siftedOf, rowsFor, counted, emitted, related}
 use Rattle.model.proofs.Lists.{is-true, getD-mem, getD-map-in}
 use Rattle.model.proofs.Actions.{upto-mem}
 use Rattle.model.proofs.Situation.{is-same}
 use Rattle.model.proofs.Search.{Inv, search-inv, search-all, search-front}
 use Rattle.model.proofs.PlanRows.{place-at, mem-at}
-use Rattle.model.proofs.Renumber.{AllIn, Renumbering, settledNamed, settled-renumber, settled-within, plan-rows-renumber, member-renumber}
+use Rattle.model.proofs.Renumber.{AllIn, Renumbering, siftedNamed, sifted-renumber, sifted-within, plan-rows-renumber, member-renumber}
 use Rattle.keys.specs.Keys.{keyOf, situationIn}
 use Rattle.keys.specs.Links.{nextIn}
 use Rattle.keys.proofs.Keys.{Fits, key-back}
-use Rattle.lists.specs.Settled.{testIn, settledIn}
+use Rattle.lists.specs.Sifted.{testIn, siftedIn}
 use Rattle.connect.specs.Related.{relatedIn}
 
 -- ---- elements by their place
@@ -149,21 +149,21 @@ module _ (k : ℕ) (σ τ : Contract) (limit : ℕ) where
 
     -- ---- rounds and rows over numbers
 
-    abbrev left : Settled ℕ
-    left = settledIn σ τ keys links count
+    abbrev left : Sifted ℕ
+    left = siftedIn σ τ keys links count
 
     all-within : AllIn Domain (upto 0 count)
     all-within a m = omega (arith, upto-mem count 0 a m)
 
     kept-within : AllIn Domain (left .kept)
-    unfolding settledIn testIn
-    kept-within = settled-within renumbering (testIn σ τ keys) (upto 0 count) all-within
+    unfolding siftedIn testIn
+    kept-within = sifted-within renumbering (testIn σ τ keys) (upto 0 count) all-within
 
-    settled-table : settledOf k σ τ done ≡ settledNamed name left
-    unfolding settledOf settledIn testIn
-    settled-table =
-        ap (settled same codes nx (test σ τ)) (sym (places-all done [] start))
-        ∙ settled-renumber renumbering (testIn σ τ keys) (test σ τ) (λ A i p. ap (test σ τ A) (sym (key-names i p))) (upto 0 count)
+    sifted-table : siftedOf k σ τ done ≡ siftedNamed name left
+    unfolding siftedOf siftedIn testIn
+    sifted-table =
+        ap (sifted same codes nx (test σ τ)) (sym (places-all done [] start))
+        ∙ sifted-renumber renumbering (testIn σ τ keys) (test σ τ) (λ A i p. ap (test σ τ A) (sym (key-names i p))) (upto 0 count)
         all-within
 
     -- ---- the start
@@ -185,17 +185,17 @@ module _ (k : ℕ) (σ τ : Contract) (limit : ℕ) where
         go [] m = absurd (List·Memᴰ·not-nil m)
         go (s ∷ l) m = omega arith
 
-    rows-table : rowsFor k σ τ (settledOf k σ τ done .kept) ≡ planRows eqb codes (nextIn links) (left .kept) 0
+    rows-table : rowsFor k σ τ (siftedOf k σ τ done .kept) ≡ planRows eqb codes (nextIn links) (left .kept) 0
     unfolding rowsFor
     rows-table =
-        ap (λ (r : Settled Situation). planRows same codes nx (r .kept) start) settled-table
+        ap (λ (r : Sifted Situation). planRows same codes nx (r .kept) start) sifted-table
         ∙ ap (λ (s : Situation). planRows same codes nx (map name (left .kept)) s) (sym start-named)
         ∙ plan-rows-renumber renumbering (left .kept) 0 kept-within start-there
 
     -- the start is kept exactly if its number is
-    start-table : member same start (settledOf k σ τ done .kept) ≡ member eqb 0 (left .kept)
+    start-table : member same start (siftedOf k σ τ done .kept) ≡ member eqb 0 (left .kept)
     start-table =
-        ap (λ (r : Settled Situation). member same start (r .kept)) settled-table
+        ap (λ (r : Sifted Situation). member same start (r .kept)) sifted-table
         ∙ ap (λ (s : Situation). member same s (map name (left .kept))) (sym start-named)
         ∙ member-renumber renumbering 0 (left .kept) start-there kept-within
 
@@ -203,7 +203,7 @@ module _ (k : ℕ) (σ τ : Contract) (limit : ℕ) where
     pub related-table : (room : ℕ) → relatedIn k σ τ keys links count room ≡ related k σ τ room done
     unfolding relatedIn related
     related-table room =
-        let rounds : left .rounds ≡ settledOf k σ τ done .rounds = ap (λ (r : Settled Situation). r .rounds) (sym settled-table) in
+        let rounds : left .rounds ≡ siftedOf k σ τ done .rounds = ap (λ (r : Sifted Situation). r .rounds) (sym sifted-table) in
         let rows = sym rows-table in
         let stays = sym start-table in
         λ i. cond (stays i) (emitted (σ .n) k room count (rounds i) (rows i)) (counted 12 count 0 (rounds i) [])

@@ -136,7 +136,7 @@ fn relate(
         (relatedFrom k (now (old .entry)) (now (new .entry)) count (now (work .entry)) (length (now (plan .entry)))) r
         (now (plan .entry)) (now (plan .exit)) ⌝ }
 {
-    let rounds = rounds::settle(old, new, work, count);
+    let rounds = rounds::sift(old, new, work, count);
     let begin = table::load(work, 0);
     if begin.mark != 0 {
         return with_counts(12, count, 0, rounds, 0);

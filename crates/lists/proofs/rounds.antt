@@ -9,4 +9,4 @@ pub mod Losing
 pub mod Removing
 pub mod Present
 pub mod Rounding
-pub mod Settling
+pub mod Sifting

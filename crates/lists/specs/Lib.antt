@@ -3,7 +3,7 @@ pub mod Known
 pub mod Index
 pub mod Chains
 pub mod Masks
-pub mod Settled
+pub mod Sifted
 pub mod Removing
 pub mod Kept
 pub mod Numbered

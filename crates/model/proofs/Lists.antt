@@ -2,7 +2,7 @@
 -- test.
 -- Assumes nothing.
 use mathlib.Core.Path.{_≡_, refl, sym, ap, subst, subst⁻¹, _∙_}
-use mathlib.Core.Bool.{Bool, true, false, _&&_, _||_, cond}
+use mathlib.Core.Bool.{Bool, true, false, not, _&&_, _||_, cond}
 use mathlib.Core.Logic.{_⊎_, inl, inr, ⊎-elim}
 use mathlib.Core.Option.{Option, none, some, Option·some-injective, Option·none-ne-some, bind}
 use mathlib.Core.List.{List, [], _∷_, _++_, map, List·Memᴰ, List·Memᴰ·head, List·Memᴰ·tail, List·Memᴰ·cases-cons, List·Memᴰ·not-nil, List·Memᴰ·append-cases, Memᴰ·append-left, Memᴰ·append-right, Memᴰ·map, Memᴰ·of-map}
@@ -55,6 +55,11 @@ pub cond-some : {A : Type 0} (a : Bool) (o : Option A) (x : A) → cond a o none
 cond-some true o x e = (tt, e)
 cond-some false o x e = absurd (Option·none-ne-some x e)
 
+pub bind-some : {A B : Type 0} (o : Option A) (f : A → Option B) (y : B) → bind o f ≡ some y → (x : A) × (o ≡ some x) × (f x ≡ some y)
+unfolding bind
+bind-some none f y e = absurd (Option·none-ne-some y e)
+bind-some (some x) f y e = (x, refl, e)
+
 pub cond-yes : {A : Type 0} (a : Bool) (x y : A) → T a → cond a x y ≡ x
 cond-yes true x y t = refl
 cond-yes false x y t = absurd t
@@ -71,6 +76,14 @@ if-elim false b t h = absurd h
 pub if-intro : (a b : Bool) → (T a → T b) → T (cond a b true)
 if-intro true b f = f tt
 if-intro false b f = tt
+
+pub not-elim : (b : Bool) → T (not b) → T b → ⊥
+not-elim true t s = t
+not-elim false t s = s
+
+pub not-intro : (b : Bool) → (T b → ⊥) → T (not b)
+not-intro true f = f tt
+not-intro false f = tt
 
 -- ---- `any` and `all`
 

@@ -1,11 +1,12 @@
 -- A run over any rows: where an invariant ties plan state and service state to a situation, every move of the run is one of the situation,
--- and the client can be met in its old state. So the buffer allows every move, a client that complies with the old contract comes to no
--- standstill, and service-alone moves in a row use up what is left for them.
+-- and the client can be met in its old state. So the moves made lead to that situation, a client that complies with the old contract comes
+-- to no standstill, in the settled mode no client does while a message waits that the old contract need not answer, and service-alone moves in
+-- a row use up what is left for them.
 -- Assumes nothing.
-use mathlib.Core.Path.{_≡_, refl, sym, subst, subst⁻¹}
+use mathlib.Core.Path.{_≡_, refl, sym, subst, subst⁻¹, _∙_}
 use mathlib.Core.Bool.{Bool, true, false}
 use mathlib.Core.Logic.{⊎-elim}
-use mathlib.Core.Option.{Option, none, some, bind}
+use mathlib.Core.Option.{Option, none, some}
 use mathlib.Core.List.{List, [], _∷_, List·Memᴰ}
 use Prim.Native.Nat.{ℕ, suc, _+_, _≤_, _<_}
 use native.Mathlib.Omega.{arith}
@@ -17,19 +18,21 @@ use Rattle.model.specs.Plan.{Move}
 use Rattle.model.specs.Client.{Meet, met-first, met-on, Complies}
 use Rattle.model.specs.Run.{Run, begin, Attempt, need, isAlone, ifMove, longest, rowAtRun, moveTo, moved, movedIf, attempted, runFrom}
 use Rattle.model.specs.Run.{alonesFrom, mostAlone, Standstill}
-use Rattle.model.specs.History.{ifMade, historyFrom, history, bufferFrom}
-use Rattle.model.specs.Weak.{Rank}
+use Rattle.model.specs.Test.{Mode, isSettled}
+use Rattle.model.specs.History.{ifMade, historyFrom, history, situationFrom, situationAfter}
+use Rattle.model.specs.Weak.{Rank, Rests, Waits}
 use Rattle.model.proofs.Lists.{and-both, and-of}
 use Rattle.model.proofs.Ranges.{OfAction, kind-action}
 use Rattle.model.proofs.Situation.{kind-straight, kind-client, kind-service}
 use Rattle.model.proofs.Moves.{rank-kept, Enabled, enabled}
 use Rattle.model.proofs.Rank.{rank-start}
-use Rattle.model.proofs.Weak.{offers-of}
+use Rattle.model.proofs.Test.{offers-of}
 use Rattle.model.proofs.Bound.{left, allowed, left-allowed, left-less}
 use Rattle.model.proofs.Attempts.{choice-elim, IsMove, is-move, moved-plan, moved-service}
+use Rattle.model.proofs.History.{situation-made}
 use Rattle.model.proofs.Upheld.{HeldAt, Upheld}
 
-module _ (limits : List ℕ) (user old new serving : Contract) (rows : List (List Move)) where
+module _ (mode : Mode) (limits : List ℕ) (user old new serving : Contract) (rows : List (List Move)) where
   -- the invariant holds of the run's plan and service states and the situation, which is within the limits and whose old state meets the
   -- client's
   pub record Tied (I : (i q : ℕ) → Situation → Type 0) (r : Run) (s : Situation) : Type 0 where
@@ -51,7 +54,7 @@ module _ (limits : List ℕ) (user old new serving : Contract) (rows : List (Lis
     moved-meets (service j) h n e = subst (λ (q : ℕ). Meet user old (r .client) q) (e .old-goes) m
     moved-meets stray h n e = absurd n
 
-  module _ (I : (i q : ℕ) → Situation → Type 0) (upheld : Upheld limits old new serving rows I) where
+  module _ (I : (i q : ℕ) → Situation → Type 0) (upheld : Upheld mode limits old new serving rows I) where
     abbrev Ties : Run → Situation → Type 0
     Ties = Tied I
 
@@ -82,49 +85,43 @@ module _ (limits : List ℕ) (user old new serving : Contract) (rows : List (Lis
           },
         )
 
-    -- a tied run stays tied
-    pub tied-run : (attempts : List Attempt) (r : Run) (s : Situation) → Ties r s
-        → (t : Situation) × Ties (runFrom user serving rows r attempts) t
-    unfolding runFrom attempted movedIf
-    tied-run [] r s d = (s, d)
+    -- a tied run stays tied, to the situation that its moves lead to
+    tied-run : (attempts : List Attempt) (r : Run) (s : Situation) → Ties r s
+        → (t : Situation) × (situationFrom limits old new s (historyFrom user serving rows r attempts) ≡ some t)
+        × Ties (runFrom user serving rows r attempts) t
+    unfolding runFrom attempted movedIf historyFrom ifMade situationFrom through
+    tied-run [] r s d = (s, refl, d)
     tied-run (a ∷ attempts) r s d = go (moveTo user serving rows r a) refl (λ r s d. tied-run attempts r s d)
       where
-        go : (o : Option ℕ) → moveTo user serving rows r a ≡ o
-            → ((r : Run) (s : Situation) → Ties r s → (t : Situation) × Ties (runFrom user serving rows r attempts) t)
-            → (t : Situation) × Ties (runFrom user serving rows (movedIf user serving rows r (kindOf (a .code)) o) attempts) t
-        go none e ih = ih r s d
-        go (some to) e ih = let w = tied-moved r s a to d (is-move user serving rows r a to e) in ih (goes r a to) (w .0) (w .2)
+        after : Option ℕ → Run
+        after o = movedIf user serving rows r (kindOf (a .code)) o
 
-    -- so a run from the start is tied to some situation
-    pub tied-attempts : (attempts : List Attempt) → (s : Situation) × Ties (runFrom user serving rows begin attempts) s
-    tied-attempts attempts = tied-run attempts begin start tied-begin
-
-    -- ---- the buffer of a run's history
-
-    -- the buffer allows every move
-    allowed-from : (attempts : List Attempt) (r : Run) (s : Situation) → Ties r s
-        → (b : List ℕ) × (bufferFrom limits (s .buffer) (historyFrom user serving rows r attempts) ≡ some b)
-    unfolding historyFrom attempted movedIf ifMade bufferFrom through bind next
-    allowed-from [] r s d = (s .buffer, refl)
-    allowed-from (a ∷ attempts) r s d = go (moveTo user serving rows r a) refl (λ r s d. allowed-from attempts r s d)
-      where
         go : (o : Option ℕ) → moveTo user serving rows r a ≡ o
             → ((r : Run) (s : Situation) → Ties r s
-            → (b : List ℕ) × (bufferFrom limits (s .buffer) (historyFrom user serving rows r attempts) ≡ some b))
-            → (b : List ℕ)
-            × (bufferFrom limits (s .buffer)
-            (ifMade o (a .code) (historyFrom user serving rows (movedIf user serving rows r (kindOf (a .code)) o) attempts)) ≡ some b)
+            → (t : Situation) × (situationFrom limits old new s (historyFrom user serving rows r attempts) ≡ some t)
+            × Ties (runFrom user serving rows r attempts) t)
+            → (t : Situation)
+            × (situationFrom limits old new s (ifMade o (a .code) (historyFrom user serving rows (after o) attempts)) ≡ some t)
+            × Ties (runFrom user serving rows (after o) attempts) t
         go none e ih = ih r s d
         go (some to) e ih =
             let w = tied-moved r s a to d (is-move user serving rows r a to e) in
             let rest = ih (goes r a to) (w .0) (w .2) in
-            (rest .0, rw (enabled limits old new s (w .0) (kindOf (a .code)) (w .1) .counts) (rest .1))
+            (rest .0, situation-made limits old new s (w .0) (a .code) (historyFrom user serving rows (goes r a to) attempts) (w .1) ∙ rest .1, rest .2)
 
-    pub history-allowed : (attempts : List Attempt)
-        → (b : List ℕ) × (bufferFrom limits (start .buffer) (history user serving rows attempts) ≡ some b)
-    history-allowed attempts = allowed-from attempts begin start tied-begin
+    -- so a run from the start is tied to the situation that its history leads to
+    pub tied-attempts : (attempts : List Attempt)
+        → (s : Situation) × (situationAfter limits old new (history user serving rows attempts) ≡ some s)
+        × Ties (runFrom user serving rows begin attempts) s
+    tied-attempts attempts = tied-run attempts begin start tied-begin
 
     -- ---- no standstill
+
+    -- under a standstill no code of the row can be made
+    none-made : (r : Run) (R S : ℕ) → Standstill user serving rows r R S
+        → (c : ℕ) (kind : Kind) → kindOf c ≡ kind → HeldAt rows (r .plan) c → T (need R S kind) → ⊥
+    unfolding rowAtRun
+    none-made r R S z c kind e a n = z .stuck c (a .0) (a .1) (subst⁻¹ (λ (k : Kind). T (need R S k)) e n)
 
     -- By the test of the row, the service's choice makes a code alone, or the row covers a ready set of the old state that the client
     -- meets. If the client's choice shares an action with that set, a code can be made; if not, complying gives it the success mark.
@@ -141,11 +138,20 @@ module _ (limits : List ℕ) (user old new serving : Contract) (rows : List (Lis
         (λ y. cannot j (straight j) (kind-straight j h) (y .1) (and-of (has S j) (has R (partner j)) (y .0) b))
         (x .2 j h a)))
         (λ x. absurd (cannot (32 + x .0) (service (x .0)) (kind-service (x .0) (x .1)) (x .3) (x .2)))
-        (upheld .passes (r .plan) (r .service) s (d .tie) S (chosen .1))
+        (upheld .asks (r .plan) (r .service) s (d .tie) .passes S (chosen .1))
       where
-        -- no code of the row can be made
         cannot : (c : ℕ) (kind : Kind) → kindOf c ≡ kind → HeldAt rows (r .plan) c → T (need R S kind) → ⊥
-        cannot c kind e a n = z .stuck c (a .0) (a .1) (subst⁻¹ (λ (k : Kind). T (need R S k)) e n)
+        cannot = none-made r R S z
+
+    -- In the settled mode the row has a code alone for every choice of the service, wherever the old state has an empty ready set and a
+    -- message waits for the service; that code can be made, whatever the client chooses.
+    pub none-waits : T (isSettled mode) → (r : Run) (s : Situation) → Ties r s → (R S : ℕ) → Standstill user serving rows r R S
+        → Rests (state old (s .old)) → Waits (s .buffer) → ⊥
+    unfolding need
+    none-waits is-settled r s d R S z rest waiting =
+        let chosen = choice-elim user serving rows r R S (z .chosen) in
+        let x = upheld .asks (r .plan) (r .service) s (d .tie) .delivers is-settled rest waiting S (chosen .1) in
+        none-made r R S z (32 + x .0) (service (x .0)) (kind-service (x .0) (x .1)) (x .3) (x .2)
 
     -- ---- how many service-alone moves come in a row
 

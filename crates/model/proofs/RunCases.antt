@@ -10,6 +10,7 @@ use lib.ListN.{replicate}
 use lib.Dec.{T}
 use Rattle.model.specs.Lists.{combine}
 use Rattle.model.specs.Contract.{Contract, has}
+use Rattle.model.specs.Test.{paper}
 use Rattle.model.specs.Sheet.{good, readSheet, sheetOf, contractIn}
 use Rattle.model.specs.Plan.{Move, held, readMoves, namedBelow, ascending, goodRow, readRows, readWith, readPlan, rowsOf, rowsIn}
 use Rattle.model.specs.Client.{samePair, firstPair, agree, meetOn, pairs, agreeAt, complies, compliesIn, compliesOf}
@@ -29,7 +30,7 @@ abbrev service : RunCase → Contract
 service c = contractIn (c .new)
 
 abbrev rows : RunCase → List (List Move)
-rows c = rowsIn (emittedPlan (connectCase (c .k) (c .old) (c .new)))
+rows c = rowsIn (emittedPlan (connectCase paper (c .k) (c .old) (c .new)))
 
 -- the run after a list of attempts, and the most service-alone moves in a row
 abbrev runOf : RunCase → List Attempt → Run
@@ -55,7 +56,7 @@ unfolding runs computedRun
 along = refl
 
 -- each pair is accepted
-connects : map (λ (c : RunCase). connectCase (c .k) (c .old) (c .new) .answer .number) runs ≡ map (λ (c : RunCase). 0) runs
+connects : map (λ (c : RunCase). connectCase paper (c .k) (c .old) (c .new) .answer .number) runs ≡ map (λ (c : RunCase). 0) runs
 unfolding runs connectCase
 connects = refl
 
@@ -70,7 +71,7 @@ reads = refl
 
 -- what a row says is what the definitions say
 pub record RunHolds (c : RunCase) : Type 0 where
-  pub accepted : connectCase (c .k) (c .old) (c .new) .answer .number ≡ 0
+  pub accepted : connectCase paper (c .k) (c .old) (c .new) .answer .number ≡ 0
   -- "if the client complies with the old contract"
   pub checked : compliesOf (c .client) (c .old) .number ≡ 0
   pub complies : compliesOf (c .client) (c .old) .yes ≡ c .says .complies
@@ -88,16 +89,16 @@ pub record RunHolds (c : RunCase) : Type 0 where
       → Standstill (user c) (service c) (rows c) (runOf c (c .attempts)) R S ↔ List·Memᴰ (record { R = R; S = S }) (c .says .standstills)
 
 -- what demand 3 says of a row's pair and client
-demanded : (c : RunCase) → connectCase (c .k) (c .old) (c .new) .answer .number ≡ 0 → readSheet (c .client) ≡ good (sheetOf (readSheet (c .client)))
+demanded : (c : RunCase) → connectCase paper (c .k) (c .old) (c .new) .answer .number ≡ 0 → readSheet (c .client) ≡ good (sheetOf (readSheet (c .client)))
     → (attempts : List Attempt)
-    → Runs (c .k) (user c) (contractIn (c .old)) (service c) (emittedPlan (connectCase (c .k) (c .old) (c .new))) attempts
+    → Runs (c .k) (user c) (contractIn (c .old)) (service c) (emittedPlan (connectCase paper (c .k) (c .old) (c .new))) attempts
 unfolding connectCase contractIn
 demanded c z read attempts =
-    demand-3 ℕ 0 (c .k) (c .old) (c .new) (replicate 16 7) (replicate 128 0xFF) (c .client) (sheetOf (readSheet (c .client))) attempts z read
+    demand-3 ℕ 0 paper (c .k) (c .old) (c .new) (replicate 16 7) (replicate 128 0xFF) (c .client) (sheetOf (readSheet (c .client))) attempts z read
 
 -- the bound that demand 3 states is 2 times k times n
 stated : (c : RunCase) (attempts : List Attempt)
-    → Runs (c .k) (user c) (contractIn (c .old)) (service c) (emittedPlan (connectCase (c .k) (c .old) (c .new))) attempts
+    → Runs (c .k) (user c) (contractIn (c .old)) (service c) (emittedPlan (connectCase paper (c .k) (c .old) (c .new))) attempts
     → aloneOf c attempts ≤ 2 * c .k * service c .n
 stated c attempts runs = runs .few-alone
 
@@ -106,7 +107,7 @@ pub runs-hold : (c : RunCase) → List·Memᴰ c runs → RunHolds c
 unfolding computedRun
 runs-hold c m =
     let says = agree-at computedRun (λ (c : RunCase). c .says) m along in
-    let z = agree-at (λ (c : RunCase). connectCase (c .k) (c .old) (c .new) .answer .number) (λ (c : RunCase). 0) m connects in
+    let z = agree-at (λ (c : RunCase). connectCase paper (c .k) (c .old) (c .new) .answer .number) (λ (c : RunCase). 0) m connects in
     let answered = agree-at (λ (c : RunCase). compliesOf (c .client) (c .old) .number) (λ (c : RunCase). 0) m answers in
     let read = agree-at (λ (c : RunCase). readSheet (c .client)) (λ (c : RunCase). good (sheetOf (readSheet (c .client)))) m reads in
     record {

@@ -2,7 +2,7 @@
 -- exactly the codes of its moves.
 -- Assumes nothing.
 use mathlib.Core.Path.{_≡_, sym, ap, subst⁻¹}
-use mathlib.Core.Bool.{Bool, true, false, not}
+use mathlib.Core.Bool.{Bool, not}
 use mathlib.Core.Logic.{_↔_}
 use mathlib.Core.Option.{some}
 use mathlib.Core.List.{List, List·Memᴰ, Memᴰ·cast}
@@ -14,19 +14,9 @@ use Rattle.model.specs.Situation.{kindOf}
 use Rattle.model.specs.Plan.{Move, held}
 use Rattle.model.specs.Run.{Run, need, rowAtRun, Standstill}
 use Rattle.model.specs.RunCases.{Choice}
-use Rattle.model.proofs.Lists.{all-elim, all-intro, keep-intro, keep-elim, combine-intro, combine-elim}
+use Rattle.model.proofs.Lists.{not-elim, not-intro, all-elim, all-intro, keep-intro, keep-elim, combine-intro, combine-elim}
 use Rattle.model.proofs.Held.{move-of, code-held}
 use Rattle.model.proofs.Attempts.{choice-intro, choice-elim}
-
--- ---- tests
-
-not-elim : (b : Bool) → T (not b) → T b → ⊥
-not-elim true t s = t
-not-elim false t s = s
-
-not-intro : (b : Bool) → (T b → ⊥) → T (not b)
-not-intro true f = f tt
-not-intro false f = tt
 
 -- ---- choices
 

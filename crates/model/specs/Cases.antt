@@ -2,6 +2,7 @@
 -- Assumes nothing.
 use mathlib.Core.List.{List, [], _∷_}
 use Prim.Native.Nat.{ℕ}
+use Rattle.model.specs.Test.{Mode, paper, settled}
 
 -- ---- the sheets, each named for its term and its n
 
@@ -60,34 +61,50 @@ pub record Figures : Type 0 where
 
 -- a row of the table
 pub record Case : Type 0 where
+  pub mode : Mode
   pub old : List ℕ
   pub new : List ℕ
   pub k : ℕ
   pub says : Figures
 
-abbrev case : List ℕ → List ℕ → (k number situations states rounds : ℕ) → Case
-case old new k number situations states rounds =
-    record { old = old; new = new; k = k; says = record { number = number; situations = situations; states = states; rounds = rounds } }
+abbrev case : Mode → List ℕ → List ℕ → (k number situations states rounds : ℕ) → Case
+case mode old new k number situations states rounds =
+    record { mode = mode; old = old; new = new; k = k; says = record { number = number; situations = situations; states = states; rounds = rounds } }
 
--- M1 to M13, in order
+-- M1 to M13, in order: the paper's mode
 unfoldable pub cases : List Case
 cases =
-    case take-a-2 external-2 0 0 2 2 0
-    ∷ case end-1 take-a-1 0 0 1 1 0
-    ∷ case take-a-1 end-1 0 12 1 0 1
-    ∷ case take-a-1 end-1 1 0 2 2 0
-    ∷ case send-a-1 end-1 3 12 1 0 1
-    ∷ case end-1 send-a-1 1 0 2 2 0
-    ∷ case take-a-2 internal-2 0 12 2 0 1
-    ∷ case take-a-2 internal-2 1 0 3 3 0
-    ∷ case internal-2 take-a-2 0 0 2 2 0
-    ∷ case take-a-send-c-4 take-a-send-d-4 0 12 2 0 2
-    ∷ case for-ever-1 for-ever-1 1 0 2 2 0
-    ∷ case take-c-take-a-3 take-a-take-c-3 0 12 1 0 1
-    ∷ case take-c-take-a-3 take-a-take-c-3 1 0 5 5 0
+    case paper take-a-2 external-2 0 0 2 2 0
+    ∷ case paper end-1 take-a-1 0 0 1 1 0
+    ∷ case paper take-a-1 end-1 0 12 1 0 1
+    ∷ case paper take-a-1 end-1 1 0 2 2 0
+    ∷ case paper send-a-1 end-1 3 12 1 0 1
+    ∷ case paper end-1 send-a-1 1 0 2 2 0
+    ∷ case paper take-a-2 internal-2 0 12 2 0 1
+    ∷ case paper take-a-2 internal-2 1 0 3 3 0
+    ∷ case paper internal-2 take-a-2 0 0 2 2 0
+    ∷ case paper take-a-send-c-4 take-a-send-d-4 0 12 2 0 2
+    ∷ case paper for-ever-1 for-ever-1 1 0 2 2 0
+    ∷ case paper take-c-take-a-3 take-a-take-c-3 0 12 1 0 1
+    ∷ case paper take-c-take-a-3 take-a-take-c-3 1 0 5 5 0
+    ∷ []
+
+-- "Settled, M4 becomes 12 with counts 2 0 2 and M8 12 with 3 0 2; M13 is unchanged" (document 02, request 5/13)
+unfoldable pub settledCases : List Case
+settledCases =
+    case settled take-a-1 end-1 1 12 2 0 2
+    ∷ case settled take-a-2 internal-2 1 12 3 0 2
+    ∷ case settled take-c-take-a-3 take-a-take-c-3 1 0 5 5 0
     ∷ []
 
 -- M1's plan, "whole, in hex"
 abbrev pub m1-plan : List ℕ
 m1-plan =
     0x01 ∷ 0x00 ∷ 0x01 ∷ 0x00 ∷ 0x00 ∷ 0x00 ∷ 0x00 ∷ 0x00 ∷ 0x00 ∷ 0x04 ∷ 0x00 ∷ 0x00 ∷ 0x00 ∷ 0x05 ∷ 0x00 ∷ 0x00 ∷ 0x00 ∷ 0x02 ∷ 0x00 ∷ 0x02 ∷ 0x00 ∷ []
+
+-- M13's plan, whole, in either mode
+abbrev pub m13-plan : List ℕ
+m13-plan =
+    0x01 ∷ 0x12 ∷ 0x01 ∷ 0x00 ∷ 0x02 ∷ 0x00 ∷ 0x02 ∷ 0x00 ∷ 0x10 ∷ 0x03 ∷ 0x00 ∷ 0x01 ∷ 0x22 ∷ 0x04 ∷ 0x00 ∷ 0x01 ∷ 0x20 ∷ 0x02 ∷ 0x00
+    ∷ 0x00 ∷ 0x00 ∷ 0x00 ∷ 0x00 ∷ 0x00 ∷ 0x04 ∷ 0x00 ∷ 0x00 ∷ 0x00 ∷ 0x0B ∷ 0x00 ∷ 0x00 ∷ 0x00 ∷ 0x0F ∷ 0x00 ∷ 0x00 ∷ 0x00 ∷ 0x13
+    ∷ 0x00 ∷ 0x00 ∷ 0x00 ∷ 0x14 ∷ 0x00 ∷ 0x00 ∷ 0x00 ∷ 0x05 ∷ 0x00 ∷ 0x03 ∷ 0x01 ∷ []

@@ -8,9 +8,9 @@ use lib.Dec.{eqb, ltb, leb}
 use Rattle.model.specs.Contract.{Contract}
 use Rattle.model.specs.Sheet.{Reading, good, refusal, Both, Refusal, plain, readBoth}
 use Rattle.model.specs.Situation.{Situation, same, start, alike, codes, next}
-use Rattle.model.specs.Test.{test}
+use Rattle.model.specs.Test.{Mode, test}
 use Rattle.model.specs.Search.{searchFrom, member}
-use Rattle.model.specs.Rounds.{Settled, settled}
+use Rattle.model.specs.Rounds.{Sifted, sifted}
 use Rattle.model.specs.Plan.{Move, planRows, planBytes}
 
 -- what connecting answers: number, sheet and state; "Counts (situations, plan states, rounds)"; "the plan's length, 0 on
@@ -52,19 +52,21 @@ emitted n k room situations rounds rows =
     cond (leb (length bytes) room) (counted 0 situations (length rows) rounds bytes) (counted 13 situations (length rows) rounds [])
 
 module _ (k : ℕ) (old new : Contract) where
-  -- what never leaves, and the rounds figure
-  unfoldable pub settledOf : List Situation → Settled Situation
-  settledOf reached = settled same codes (next (alike k) old new) (test old new) reached
-
   -- the plan's rows, for the situations that never leave
   unfoldable pub rowsFor : List Situation → List (List Move)
   rowsFor kept = planRows same codes (next (alike k) old new) kept start
 
+-- with a test of situations, A being the codes of the moves that count
+module _ (passes : (A : List ℕ) → Situation → Bool) (k : ℕ) (old new : Contract) where
+  -- what never leaves, and the rounds figure
+  unfoldable pub siftedOf : List Situation → Sifted Situation
+  siftedOf reached = sifted same codes (next (alike k) old new) passes reached
+
   -- 12, "the start is removed", or what follows; "for 12 the plan states are 0"
   unfoldable pub related : (room : ℕ) → List Situation → Outcome
   related room reached =
-      let left = settledOf reached in
-      cond (member same start (left .kept)) (emitted (old .n) k room (length reached) (left .rounds) (rowsFor (left .kept)))
+      let left = siftedOf reached in
+      cond (member same start (left .kept)) (emitted (old .n) k room (length reached) (left .rounds) (rowsFor k old new (left .kept)))
       (counted 12 (length reached) 0 (left .rounds) [])
 
   -- 11, "reached situations exceed the lent records or 4,096": the search was cut off. Or what follows.
@@ -83,14 +85,15 @@ unfoldable pub limitOf : ℕ → ℕ
 limitOf records = min records 4096
 
 -- 10, "k above 3", or what follows
-unfoldable pub ranked : (k records room : ℕ) → Reading Refusal Both → Outcome
-ranked k records room (refusal r) = refused r
-ranked k records room (good sheets) =
-    cond (leb k 3) (connected k (sheets .one) (sheets .two) (limitOf records) room) (refused (plain 10 0))
+unfoldable pub ranked : Mode → (k records room : ℕ) → Reading Refusal Both → Outcome
+ranked mode k records room (refusal r) = refused r
+ranked mode k records room (good sheets) =
+    cond (leb k 3) (connected (test mode (sheets .one) (sheets .two)) k (sheets .one) (sheets .two) (limitOf records) room)
+    (refused (plain 10 0))
 
 -- the answer and the plan, for so many lent records and so much room for the plan
-unfoldable pub outcomeOf : (records room k : ℕ) → (old new : List ℕ) → Outcome
-outcomeOf records room k old new = ranked k records room (readBoth 0 0 old new)
+unfoldable pub outcomeOf : Mode → (records room k : ℕ) → (old new : List ℕ) → Outcome
+outcomeOf mode records room k old new = ranked mode k records room (readBoth 0 0 old new)
 
 -- an answer after which each record is zero: acceptance, or a refusal above 10
 unfoldable pub clears : ℕ → Bool
@@ -105,9 +108,9 @@ pub record Connected (R : Type 0) : Type 0 where
 -- The whole outcome of connecting, `blank` being the record that "is zero". The plan: "bytes beyond it are untouched".
 -- The work table: "unchanged by refusals 1 to 10 ...; after every other call, accepted ones included, each record in it is
 -- zero".
-unfoldable pub connectOf : {R : Type 0} → R → (k : ℕ) → (old new : List ℕ) → (work : List R) → (plan : List ℕ) → Connected R
-connectOf blank k old new work plan =
-    let o = outcomeOf (length work) (length plan) k old new in
+unfoldable pub connectOf : {R : Type 0} → R → Mode → (k : ℕ) → (old new : List ℕ) → (work : List R) → (plan : List ℕ) → Connected R
+connectOf blank mode k old new work plan =
+    let o = outcomeOf mode (length work) (length plan) k old new in
     record {
       answer = o .answer;
       plan = o .bytes ++ drop (length (o .bytes)) plan;

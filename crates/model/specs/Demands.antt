@@ -1,6 +1,7 @@
--- What is promised: the three demands, and what a yes of the client check means, as types. They are proved by `demand-1`, `demand-2`,
--- `demand-3` and `client-check` of proofs/Demand1.antt, Demand2.antt, Demand3.antt and ClientCheck.antt. A demand's own words stand above its type; all other words in quotation
--- marks are document 01's.
+-- What is promised: the three demands, what a yes of the client check means, and what a settled plan does, as types. They are proved by
+-- `demand-1`, `demand-2`, `demand-3`, `client-check` and `settled-runs` of proofs/Demand1.antt, Demand2.antt, Demand3.antt, ClientCheck.antt;
+-- the last stands in Demand3.antt too. A demand's own words stand above its type; other words in quotation marks are document 01's, or those of the request
+-- of document 02 that is named.
 -- Assumes nothing.
 use mathlib.Core.Path.{_≡_}
 use mathlib.Core.Bool.{true}
@@ -11,15 +12,17 @@ use Prim.Native.Nat.{ℕ, _*_, _≤_, _<_}
 use lib.ListN.{length, getD, getElem?, take, drop}
 use lib.Dec.{T}
 use Rattle.model.specs.Lists.{Distinct}
-use Rattle.model.specs.Contract.{Contract, has}
+use Rattle.model.specs.Contract.{Contract, has, state}
 use Rattle.model.specs.Sheet.{Sheet, good, Both, readSheet, readBoth, contractIn}
 use Rattle.model.specs.Situation.{Situation, start, alike, codes, next}
+use Rattle.model.specs.Test.{Mode, settled}
 use Rattle.model.specs.Search.{Reached}
 use Rattle.model.specs.Plan.{Move, held, rowsIn, Stepped, stepOf}
 use Rattle.model.specs.Connect.{Connected, limitOf, connectOf}
 use Rattle.model.specs.Client.{Complies, compliesOf}
 use Rattle.model.specs.Run.{begin, Attempt, rowAtRun, runFrom, mostAlone, Standstill}
-use Rattle.model.specs.Weak.{Largest}
+use Rattle.model.specs.History.{history, situationAfter}
+use Rattle.model.specs.Weak.{Rests, Waits, AsksAt, Largest}
 
 -- ---- demand 1
 
@@ -46,8 +49,8 @@ pub record Steps (s : Stepped) : Type 0 where
 -- Demand 1: every entry point takes bytes of all kinds and lengths and answers with a result or a refusal of document 01's table. On a
 -- refusal the lent plan is untouched and the lent work table is as 01 says.
 pub record Demand-1 : Type 1 where
-  pub connects : (R : Type 0) (blank : R) (k : ℕ) (old new : List ℕ) (work : List R) (plan : List ℕ)
-      → Answers blank work plan (connectOf blank k old new work plan)
+  pub connects : (R : Type 0) (blank : R) (mode : Mode) (k : ℕ) (old new : List ℕ) (work : List R) (plan : List ℕ)
+      → Answers blank work plan (connectOf blank mode k old new work plan)
   pub steps : (plan : List ℕ) (state code : ℕ) → Steps (stepOf plan state code)
   pub complies : (client service : List ℕ) → compliesOf client service .number ≤ 9
 
@@ -75,9 +78,11 @@ module _ (k : ℕ) (σ τ : Contract) where
   abbrev pub ReachedCount : ℕ → Type 0
   ReachedCount count = (l : List Situation) × Distinct l × ((s : Situation) → List·Memᴰ s l ↔ IsReached s) × (length l ≡ count)
 
+-- with `asks`, what is asked of a set of moves at a situation
+module _ (asks : (ℕ → Type 0) → Situation → Type 0) (k : ℕ) (σ τ : Contract) where
   -- some relation of definition 3.7 holds the situation
   abbrev pub Related : Situation → Type 1
-  Related s = Largest (alike k) σ τ s
+  Related s = Largest (alike k) σ τ asks s
 
   -- "reached from the start by kept moves", which are those that lead into the largest relation
   pub data IsKept : Situation → Type 1 where
@@ -101,10 +106,10 @@ module _ (k : ℕ) (σ τ : Contract) where
     pub every : (i code : ℕ) (s t : Situation) → getElem? states i ≡ some s → List·Memᴰ code codes → next (alike k) σ τ s code ≡ some t → Related t
         → (to : ℕ) × (held (getD (rowsIn bytes) i []) code ≡ some to) × (getElem? states to ≡ some t)
 
-module _ {R : Type 0} (blank : R) (k : ℕ) (old new : List ℕ) (sheets : Both) (work : List R) where
+module _ {R : Type 0} (blank : R) (mode : Mode) (k : ℕ) (old new : List ℕ) (sheets : Both) (work : List R) where
   -- the outcome and its number, by the plan that is lent
   abbrev pub outcome : List ℕ → Connected R
-  outcome plan = connectOf blank k old new work plan
+  outcome plan = connectOf blank mode k old new work plan
 
   abbrev pub number : List ℕ → ℕ
   number plan = outcome plan .answer .number
@@ -115,16 +120,20 @@ module _ {R : Type 0} (blank : R) (k : ℕ) (old new : List ℕ) (sheets : Both)
   abbrev pub τ : Contract
   τ = sheets .two
 
+  -- some relation of definition 3.7 holds the start, with what the mode asks
+  abbrev pub StartRelated : Type 1
+  StartRelated = Related (AsksAt mode σ τ) k σ τ start
+
   -- what demand 2 says of an admitted pair, with these records and this plan lent
   pub record Decides (plan : List ℕ) : Type 1 where
     -- 11 exactly when the reached situations exceed the lent records or 4,096
     pub capacity : (number plan ≡ 11) ↔ Exceed k σ τ (limitOf (length work))
     -- else, where the plan fits, acceptance exactly if some relation of definition 3.7 holds the start
-    pub accepts : (number plan ≡ 11 → ⊥) → (number plan ≡ 13 → ⊥) → (number plan ≡ 0) ↔ Related k σ τ start
+    pub accepts : (number plan ≡ 11 → ⊥) → (number plan ≡ 13 → ⊥) → (number plan ≡ 0) ↔ StartRelated
     -- and 12 exactly if none does
-    pub refuses : (number plan ≡ 11 → ⊥) → (number plan ≡ 12) ↔ (Related k σ τ start → ⊥)
+    pub refuses : (number plan ≡ 11 → ⊥) → (number plan ≡ 12) ↔ (StartRelated → ⊥)
     -- the plan has a size: a lent plan of that size or more is accepted, a shorter one is refused as 13
-    pub room : (number plan ≡ 11 → ⊥) → Related k σ τ start
+    pub room : (number plan ≡ 11 → ⊥) → StartRelated
         → (size : ℕ)
         × ((p : List ℕ) → size ≤ length p → (number p ≡ 0) × (outcome p .answer .length ≡ size))
         × ((p : List ℕ) → length p < size → number p ≡ 13)
@@ -140,14 +149,15 @@ module _ {R : Type 0} (blank : R) (k : ℕ) (old new : List ℕ) (sheets : Both)
         × (outcome plan .answer .states ≡ outcome p .answer .states)
         × (outcome plan .answer .rounds ≡ outcome p .answer .rounds)
     -- an emitted plan holds every move that the largest relation allows, and no others
-    pub emitted : number plan ≡ 0 → HoldsLargest k σ τ (emittedPlan (outcome plan))
+    pub emitted : number plan ≡ 0 → HoldsLargest (AsksAt mode σ τ) k σ τ (emittedPlan (outcome plan))
 
 -- Demand 2: a pair within the limits is accepted if and only if some weak k-subcontract relation (definition 3.7 of Padovani 2010) holds
--- the starting situation; else it is refused as 12. The plan holds every move that the largest such relation allows, and no others.
+-- the starting situation; else it is refused as 12. The plan holds every move that the largest such relation allows, and no others. "Demand
+-- 2 speaks of both tests" (document 02, request 5/13): in either mode.
 abbrev pub Demand-2 : Type 1
 Demand-2 =
-    (R : Type 0) (blank : R) (k : ℕ) (old new : List ℕ) (sheets : Both) (work : List R) (plan : List ℕ)
-    → Admitted k old new sheets → Decides blank k old new sheets work plan
+    (R : Type 0) (blank : R) (mode : Mode) (k : ℕ) (old new : List ℕ) (sheets : Both) (work : List R) (plan : List ℕ)
+    → Admitted k old new sheets → Decides blank mode k old new sheets work plan
 
 -- ---- the client check
 
@@ -177,9 +187,29 @@ pub record Runs (k : ℕ) (user old new : Contract) (bytes : List ℕ) (attempts
   -- "Refused attempts left out, at most 2 times k times n moves of codes 32+j come in a row"
   pub few-alone : mostAlone user new (rowsIn bytes) attempts ≤ 2 * k * new .n
 
--- Demand 3: one claim about the whole list of attempted moves of a run of an emitted plan, for any client.
+-- Demand 3: one claim about the whole list of attempted moves of a run of an emitted plan, for any client; in either mode.
 abbrev pub Demand-3 : Type 1
 Demand-3 =
-    (R : Type 0) (blank : R) (k : ℕ) (old new : List ℕ) (work : List R) (plan : List ℕ) (client : List ℕ) (user : Sheet) (attempts : List Attempt)
-    → connectOf blank k old new work plan .answer .number ≡ 0 → readSheet client ≡ good user
-    → Runs k (user .contract) (contractIn old) (contractIn new) (emittedPlan (connectOf blank k old new work plan)) attempts
+    (R : Type 0) (blank : R) (mode : Mode) (k : ℕ) (old new : List ℕ) (work : List R) (plan : List ℕ) (client : List ℕ) (user : Sheet)
+    (attempts : List Attempt)
+    → connectOf blank mode k old new work plan .answer .number ≡ 0 → readSheet client ≡ good user
+    → Runs k (user .contract) (contractIn old) (contractIn new) (emittedPlan (connectOf blank mode k old new work plan)) attempts
+
+-- ---- settled plans: document 02, request 5/13
+
+-- what is said of a settled plan's bytes, for a list of attempts with a client, the old contract and the new one
+pub record Settles (k : ℕ) (user old new : Contract) (bytes : List ℕ) (attempts : List Attempt) : Type 0 where
+  -- the situation that the moves made so far lead to, with the old state of the run and the messages that wait
+  pub at : Situation
+  pub leads : situationAfter (alike k) old new (history user new (rowsIn bytes) attempts) ≡ some at
+  -- "no run stands still ... where the old state has an empty ready set and a message still waits for the service"
+  pub none-waits : (R S : ℕ) → Standstill user new (rowsIn bytes) (runFrom user new (rowsIn bytes) begin attempts) R S
+      → Rests (state old (at .old)) → Waits (at .buffer) → ⊥
+
+-- "Show that in a settled plan no run stands still, for whichever client, where the old state has an empty ready set and a message still
+-- waits for the service": over every list of attempts, and for any contract that the client has, complying or not.
+abbrev pub SettledRuns : Type 1
+SettledRuns =
+    (R : Type 0) (blank : R) (k : ℕ) (old new : List ℕ) (work : List R) (plan : List ℕ) (user : Contract) (attempts : List Attempt)
+    → connectOf blank settled k old new work plan .answer .number ≡ 0
+    → Settles k user (contractIn old) (contractIn new) (emittedPlan (connectOf blank settled k old new work plan)) attempts

@@ -1,4 +1,5 @@
--- Coinductive weak k-subcontract relations: definition 3.7 of Padovani 2010, with the notions of its section 3.1.
+-- Coinductive weak k-subcontract relations: definition 3.7 of Padovani 2010, with the notions of its section 3.1, and what the settled mode
+-- of document 02, request 5/13, asks besides.
 -- There σ is the old contract and τ the new one. An orchestration action is a code: with α the action j, code j is
 -- ⟨α, ᾱ⟩, code 16+j is ⟨α, ε⟩ and code 32+j is ⟨ε, ᾱ⟩. A set A of them is any family of types over the codes.
 -- Assumes nothing.
@@ -12,6 +13,7 @@ use lib.ListN.{length, getD, set}
 use lib.Dec.{T}
 use Rattle.model.specs.Contract.{Contract, State, takes, has, state, offers, after}
 use Rattle.model.specs.Situation.{Situation, lowered}
+use Rattle.model.specs.Test.{Mode, isSettled}
 
 -- "B has rank k, or is a k-buffer": every count is within 0 and k. Here each count has its own limit; k is fourteen alike.
 pub record Rank (limits b : List ℕ) : Type 0 where
@@ -47,7 +49,34 @@ Hope A S = (j : ℕ) × (j < 14) × T (has S j) × A (32 + j)
 abbrev pub Passes : State → State → (ℕ → Type 0) → Type 0
 Passes σ τ A = (S : ℕ) → List·Memᴰ S (τ .ready) → ((R : ℕ) × List·Memᴰ R (σ .ready) × Covered A S R) ⊎ Hope A S
 
-module _ (limits : List ℕ) (old new : Contract) where
+-- ---- the settled mode
+
+-- "the old state has an empty ready set": one with no action
+abbrev pub Rests : State → Type 0
+Rests σ = (R : ℕ) × List·Memᴰ R (σ .ready) × ((j : ℕ) → j < 14 → T (has R j) → ⊥)
+
+-- "any count for the service is above 0": count i, for a name i
+abbrev pub Waits : List ℕ → Type 0
+Waits b = (i : ℕ) × (i < 7) × (0 < getD b i 0)
+
+-- "if the old state has an empty ready set and any count for the service is above 0, then for every ready set S of the new state some j in
+-- S has 32+j in A"
+abbrev pub Delivers : State → State → List ℕ → (ℕ → Type 0) → Type 0
+Delivers σ τ b A = Rests σ → Waits b → (S : ℕ) → List·Memᴰ S (τ .ready) → Hope A S
+
+-- what a mode asks of a set A, with the old state σ, the new state τ and the buffer b: condition (1); and in the settled mode the second part
+pub record Asks (mode : Mode) (σ τ : State) (b : List ℕ) (A : ℕ → Type 0) : Type 0 where
+  pub passes : Passes σ τ A
+  pub delivers : T (isSettled mode) → Delivers σ τ b A
+
+-- the same at a situation
+abbrev pub AsksAt : Mode → (old new : Contract) → (ℕ → Type 0) → Situation → Type 0
+AsksAt mode old new A s = Asks mode (state old (s .old)) (state new (s .new)) (s .buffer) A
+
+-- ---- the relations
+
+-- with `asks`, what is asked of a set A at a situation: in the paper's mode condition (1) alone, as definition 3.7 has it
+module _ (limits : List ℕ) (old new : Contract) (asks : (ℕ → Type 0) → Situation → Type 0) where
   -- what definition 3.7 asks of a member s = (B, σ, τ) of W
   pub record Weak {ℓ} (W : Situation → Type ℓ) (s : Situation) : Type (1 ⊔ ℓ) where
     -- B is a k-buffer
@@ -57,8 +86,8 @@ module _ (limits : List ℕ) (old new : Contract) where
     -- that B enables: Bμ is a k-buffer for each μ in A; ⟨α, ᾱ⟩ leaves B as it is
     pub client-enabled : (j : ℕ) → j < 14 → acts (16 + j) → (b : List ℕ) × (clientEffect (s .buffer) j ≡ some b) × Rank limits b
     pub service-enabled : (j : ℕ) → j < 14 → acts (32 + j) → (b : List ℕ) × (serviceEffect (s .buffer) j ≡ some b) × Rank limits b
-    -- condition (1)
-    pub passes : Passes (state old (s .old)) (state new (s .new)) acts
+    -- condition (1), and what the mode asks besides
+    pub passes : asks acts s
     -- condition (2): if τ can meet an action of A, then σ can, and what follows is in W
     pub straight-leads : (j : ℕ) → j < 14 → T (offers (state new (s .new)) j) → acts j
         → T (offers (state old (s .old)) j)

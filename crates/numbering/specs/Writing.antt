@@ -6,7 +6,7 @@ use lib.ListN.{length}
 use Rattle.model.specs.Plan.{rowBytes}
 use Rattle.table.specs.declared.Record.{Record}
 use Rattle.table.specs.Lists.{numbersOf}
-use Rattle.table.specs.States.{SettledTable}
+use Rattle.table.specs.States.{SiftedTable}
 use Rattle.lists.specs.Numbered.{Numbers}
 use Rattle.numbering.specs.Table.{statesAt, keptRowAt, NumberedTable}
 
@@ -17,7 +17,7 @@ pub record ToWrite (bytes : List ℕ) (count states : ℕ) (ys : List Record) (o
 
 -- the row of situation i to write
 pub record RowToWrite (count i : ℕ) (ys : List Record) (out : List ℕ) : Type 0 where
-  pub settled : SettledTable count ys
+  pub sifted : SiftedTable count ys
   -- every state has its number
   pub numbers : Numbers count (statesAt count ys) (numbersOf ys)
   -- the situation is a state

@@ -20,4 +20,4 @@ pub mod LookLookAt
 pub mod LookLookAtAll
 pub mod LookLookInto
 pub mod NextRound
-pub mod Settle
+pub mod Sift

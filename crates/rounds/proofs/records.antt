@@ -7,4 +7,4 @@ pub mod Losing
 pub mod Looking
 pub mod LookingAgain
 pub mod Rounding
-pub mod Settling
+pub mod Sifting

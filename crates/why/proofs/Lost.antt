@@ -14,10 +14,10 @@ use Rattle.model.specs.Contract.{Contract, State, partner, has, state, offers, 
 use Rattle.model.specs.Situation.{Situation, start, same, kindOf, codes, bufferAfter, offered, oldAfter, newAfter, next}
 use Rattle.model.specs.Test.{test}
 use Rattle.model.specs.Search.{Reached, at-start, by-move, member}
-use Rattle.model.specs.Rounds.{movesInto, round, settle, settled}
+use Rattle.model.specs.Rounds.{movesInto, round, sift, sifted}
 use Rattle.model.specs.Run.{need}
 use Rattle.model.proofs.Lists.{dec-T, and-both, and-of, any-intro, any-elim, keep-intro}
-use Rattle.model.proofs.Rounds.{member-intro, member-elim, moves-intro, settle-step}
+use Rattle.model.proofs.Rounds.{member-intro, member-elim, moves-intro, sift-step}
 use Rattle.model.proofs.Situation.{is-same, code-elim, kind-straight, kind-client, kind-service, behind, next-intro}
 use Rattle.model.proofs.Attempts.{need-straight, need-client, need-service, need-code}
 use Rattle.model.proofs.Weak.{offers-of, reached-within}
@@ -177,16 +177,16 @@ module _ (limits : List ℕ) (σ τ : Contract) (σ-formed : WellFormed σ) (τ-
       (λ u. out (keep-intro passes (member-elim same is-same s there t) u))))
       (λ t. lost-but s reached (λ m. t (member-intro same is-same m))) (dec-T (member same s there))
 
-  settle-lost : (fuel : ℕ) (there : List Situation) → LostBut there → LostBut (settle same codes nx (test σ τ) fuel there .kept)
-  settle-lost zero there lost-but = unfold settle in lost-but
-  settle-lost (suc fuel) there lost-but =
+  sift-lost : (fuel : ℕ) (there : List Situation) → LostBut there → LostBut (sift same codes nx (test σ τ) fuel there .kept)
+  sift-lost zero there lost-but = unfold sift in lost-but
+  sift-lost (suc fuel) there lost-but =
       ⊎-elim (λ w. rw (w .1) lost-but)
-      (λ w. rw (w .1) (settle-lost fuel (round same codes nx (test σ τ) there) (round-lost there lost-but)))
-      (settle-step same is-same codes nx (test σ τ) fuel there)
+      (λ w. rw (w .1) (sift-lost fuel (round same codes nx (test σ τ) there) (round-lost there lost-but)))
+      (sift-step same is-same codes nx (test σ τ) fuel there)
 
   -- if the rounds over all that is reached remove the start, every strategy ends badly
   pub start-lost : (reached : List Situation) → ((s : Situation) → Reached codes nx start s → List·Memᴰ s reached)
-      → (List·Memᴰ start (settled same codes nx (test σ τ) reached .kept) → ⊥) → BadEnd
-  unfolding settled standing start opening
+      → (List·Memᴰ start (sifted same codes nx (test σ τ) reached .kept) → ⊥) → BadEnd
+  unfolding sifted standing start opening
   start-lost reached all-reached out =
-      settle-lost (length reached) reached (λ s r m. absurd (m (all-reached s r))) start (at-start refl) out [] played-none
+      sift-lost (length reached) reached (λ s r m. absurd (m (all-reached s r))) start (at-start refl) out [] played-none

@@ -13,14 +13,14 @@ use Rattle.model.specs.Sheet.{contractIn}
 use Rattle.model.specs.Situation.{Situation, start, alike, same, codes, next}
 use Rattle.model.specs.Test.{test}
 use Rattle.model.specs.Search.{at-start, member, searchFrom}
-use Rattle.model.specs.Rounds.{settled}
+use Rattle.model.specs.Rounds.{sifted}
 use Rattle.model.specs.Plan.{rowsIn}
 use Rattle.model.specs.Connect.{connectOf}
 use Rattle.model.specs.Weak.{Largest}
 use Rattle.model.proofs.Lists.{dec-T}
 use Rattle.model.proofs.Search.{search-all}
 use Rattle.model.proofs.Situation.{is-same}
-use Rattle.model.proofs.Rounds.{member-intro, member-elim, settled-closed}
+use Rattle.model.proofs.Rounds.{member-intro, member-elim, sifted-closed}
 use Rattle.model.proofs.Test.{PassesAt, is-test}
 use Rattle.model.proofs.Weak.{kept-is-largest, largest-is-kept}
 use Rattle.model.proofs.Finite.{some-search-whole}
@@ -47,7 +47,7 @@ module _ (limits : List ℕ) (σ τ : Contract) (σ-formed : WellFormed σ) (τ-
   whole = some-search-whole limits σ τ σ-formed τ-formed .1
 
   abbrev kept : List Situation
-  kept = settled same codes nx (test σ τ) (searchFrom same codes nx limit start .done) .kept
+  kept = sifted same codes nx (test σ τ) (searchFrom same codes nx limit start .done) .kept
 
   every-strategy : (Largest limits σ τ start → ⊥) → (offer : Strategy) → EndsBadly limits (demanding σ) τ offer
   every-strategy none-holds offer =
@@ -76,7 +76,7 @@ module _ (limits : List ℕ) (σ τ : Contract) (σ-formed : WellFormed σ) (τ-
   related-served : Largest limits σ τ start → AllServed limits σ τ
   related-served l =
       served limits σ τ kept
-      (settled-closed same is-same codes nx (test σ τ) (PassesAt σ τ) (is-test σ τ) (searchFrom same codes nx limit start .done))
+      (sifted-closed same is-same codes nx (test σ τ) (PassesAt σ τ) (is-test σ τ) (searchFrom same codes nx limit start .done))
       (holds-kept l)
 
 -- ---- over sheets

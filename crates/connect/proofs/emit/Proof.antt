@@ -148,11 +148,11 @@ module _ {M : Type 1} (𝓤 : URA M) (H : Heap 𝓤) (A : Atoms 𝓤) (W : Given
           calls-write-plan 𝓤 H A W mem run (ν-7-work ∷ []) fullShare (lentAt b-work o-work δ-7-work ordered) s-work count states n k (ν-7-out ∷ []) fullShare (lentAt b-plan o-plan δ-7-out plan) s-plan (fmOf 𝓤 H (W .laws) 𝓣) known-write-plan fits-count fits-states fits-n fits-k (plan-to-write k old count rounds work unnumbered numbered size-is plan enough-is has-room n)
           (and-then ! (load ! (from ! (stop !)) (look ! 9 refl)) (and-then ! (load ! (from ! (stop !)) (look ! 35 refl)) (and-then ! (load ! (from ! (stop !)) (look ! 31 refl)) (and-then ! (load ! (from ! (stop !)) (look ! 27 refl)) (and-then ! (load ! (from ! (stop !)) (look ! 43 refl)) (and-then ! (load ! (from ! (stop !)) (look ! 5 refl)) (no-more !))))))) (λ written same-written is-written.
           move ! (0 ∷ 4 ∷ []) $ regain-shared ! tt Record-row.the-row (named 1) κ-work q-work γ-work b-work o-work (length work) ordered (same-ordered ∙ refl) ν-7-work room-work (move ! (2 ∷ 4 ∷ 3 ∷ []) $ regain ! tt u8 (named 2) κ-plan q-plan γ-plan b-plan o-plan (length plan) plan refl ν-7-out δ-7-out written room-plan same-written (move ! (4 ∷ 5 ∷ 2 ∷ 3 ∷ 0 ∷ 1 ∷ []) $ land ! (from ! (stop !)) (init ! 14 refl (tt, tt)) $
-          calls-with-counts 𝓤 H A W mem run 0 count states rounds size (fmOf 𝓤 H (W .laws) 𝓣) known-with-counts (lit< tt) fits-count fits-states fits-rounds fits-size (unnumbered .settled .few)
+          calls-with-counts 𝓤 H A W mem run 0 count states rounds size (fmOf 𝓤 H (W .laws) 𝓣) known-with-counts (lit< tt) fits-count fits-states fits-rounds fits-size (unnumbered .sifted .few)
           (and-then ! (lit ! tt) (and-then ! (load ! (from ! (stop !)) (look ! 37 refl)) (and-then ! (load ! (from ! (stop !)) (look ! 33 refl)) (and-then ! (load ! (from ! (stop !)) (look ! 35 refl)) (and-then ! (load ! (from ! (stop !)) (look ! 31 refl)) (no-more !)))))) (λ answer is-answer answer-is.
           land ! (from ! (stop !)) (init ! 46 refl (LL.lawful Answer-row.the-type Answer-laws.the-laws 𝓤 H A W .typed answer _ is-answer .0)) $
           returns-within ! Ends refl (look ! 46 refl) $ released ! (‵ (ShrSlice (named 0) κ-old u8 .own (lentAt b-old o-old γ-old old) (s-old ∷ [])) ∷ ‵ (flft κ-old q-old) ∷ ‵ (MutSlice (named 1) κ-work Record-row.the-row .own (lentAt b-work o-work γ-work ordered) (s-work ∷ [])) ∷ ‵ (flft κ-work q-work) ∷ ‵ (MutSlice (named 2) κ-plan u8 .own (lentAt b-plan o-plan γ-plan written) (s-plan ∷ [])) ∷ ‵ (flft κ-plan q-plan) ∷ []) (valued Answer-laws.mir l0 (Answer-laws.lowered answer) ∷ valued (tyInt w8) l1 (vint w8 k) ∷ valued τ0 l2 (s-old) ∷ valued τ1 l3 (s-work) ∷ valued τ2 l4 (s-plan) ∷ valued (tyInt w64) l5 (vint w64 count) ∷ valued (tyInt w16) l6 (vint w16 rounds) ∷ valued (tyInt w16) l7 (vint w16 states) ∷ valued (tyInt w32) l8 (vint w32 size) ∷ valued (tyInt w8) l9 (vint w8 n) ∷ valued τ3 l10 (vptr b-work o-work) ∷ valued τ4 l11 (s-work) ∷ valued τ5 l12 (vptr b-work o-work) ∷ valued τ6 l13 (s-work) ∷ valued tyBool l14 (vbool enough) ∷ valued (tyInt w64) l15 (vint w64 (length plan)) ∷ valued tyUnit l16 (vunit) ∷ valued τ5 l17 (vptr b-work o-work) ∷ valued τ6 l18 (s-work) ∷ valued τ7 l19 (vptr b-plan o-plan) ∷ valued τ8 l20 (s-plan) ∷ []) $ by ! (exits answer ordered written is-answer (same-ordered ∙ refl) (same-written ∙ refl) (plan-emitted k old count rounds work unnumbered numbered size-is plan enough-is has-room n-is is-written answer-is)))))))))))
-          (λ lacks-room. calls-with-counts 𝓤 H A W mem run 13 count states rounds 0 (fmOf 𝓤 H (W .laws) 𝓣) known-with-counts (lit< tt) fits-count fits-states fits-rounds (lit< tt) (unnumbered .settled .few)
+          (λ lacks-room. calls-with-counts 𝓤 H A W mem run 13 count states rounds 0 (fmOf 𝓤 H (W .laws) 𝓣) known-with-counts (lit< tt) fits-count fits-states fits-rounds (lit< tt) (unnumbered .sifted .few)
           (and-then ! (lit ! tt) (and-then ! (load ! (from ! (stop !)) (look ! 37 refl)) (and-then ! (load ! (from ! (stop !)) (look ! 33 refl)) (and-then ! (load ! (from ! (stop !)) (look ! 35 refl)) (and-then ! (lit ! tt) (no-more !)))))) (λ answer is-answer answer-is.
           land ! (from ! (stop !)) (init ! 46 refl (LL.lawful Answer-row.the-type Answer-laws.the-laws 𝓤 H A W .typed answer _ is-answer .0)) $
           forget ! 44 refl $ forget ! 42 refl $ forget ! 40 refl $ forget ! 38 refl $ forget ! 36 refl $ forget ! 34 refl $ forget ! 32 refl $ forget ! 30 refl $ forget ! 26 refl $ forget ! 24 refl $ forget ! 22 refl $ forget ! 20 refl $ forget ! 18 refl $ forget ! 16 refl $ part-10 states ordered fits-states same-ordered numbered size fits-size size-is enough enough-is lacks-room answer is-answer answer-is)))))))))

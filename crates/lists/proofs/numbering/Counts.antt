@@ -15,7 +15,7 @@ use Rattle.model.specs.Contract.{has}
 use Rattle.model.specs.Plan.{rowBytes}
 use Rattle.keys.proofs.Bits.{slotsIn}
 use Rattle.lists.specs.Kept.{keptRow}
-use Rattle.lists.proofs.numbering.Kept.{SettledLists, slots-small, slot-none, slot-linked}
+use Rattle.lists.proofs.numbering.Kept.{SiftedLists, slots-small, slot-none, slot-linked}
 use Rattle.lists.proofs.numbering.Moves.{rowFrom, row-whole, row-end, row-none, row-some, row-few}
 use Rattle.lists.proofs.numbering.Bytes.{length-row}
 
@@ -40,7 +40,7 @@ ones-end mask slot small h =
 
 -- ---- the moves of a row
 
-module _ {count : ℕ} {links marks present : List ℕ} (lists : SettledLists count links marks present) {i : ℕ} (here : i < count) where
+module _ {count : ℕ} {links marks present : List ℕ} (lists : SiftedLists count links marks present) {i : ℕ} (here : i < count) where
   abbrev mask : ℕ
   mask = slotsIn present i
 

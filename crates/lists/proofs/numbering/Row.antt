@@ -18,7 +18,7 @@ use Rattle.plan.proofs.Written.{moves-append}
 use Rattle.walks.proofs.Rest.{restOf, withRest}
 use Rattle.lists.specs.Kept.{keptStates, keptRow}
 use Rattle.lists.specs.Numbered.{Numbers}
-use Rattle.lists.proofs.numbering.Kept.{SettledLists, keptLink, kept-within, slot-none, slot-linked}
+use Rattle.lists.proofs.numbering.Kept.{SiftedLists, keptLink, kept-within, slot-none, slot-linked}
 use Rattle.lists.proofs.numbering.Moves.{moveBy, rowFrom, row-end, row-few, row-whole, row-none, row-by-numbers, numbered-link}
 use Rattle.lists.proofs.numbering.Moves.{state-below}
 use Rattle.lists.proofs.numbering.Bytes.{length-row}
@@ -48,7 +48,7 @@ pub record WritingMoves (links marks : List ℕ) (count i slot at : ℕ) (first 
 pub row-room : (row : List Move) {room : ℕ} → length (rowBytes row) ≤ room → 1 ≤ room
 row-room row h = omega (arith, length-row row)
 
-pub row-begun : {count : ℕ} {links marks present : List ℕ} → SettledLists count links marks present → {i : ℕ} → i < count
+pub row-begun : {count : ℕ} {links marks present : List ℕ} → SiftedLists count links marks present → {i : ℕ} → i < count
     → {slots : ℕ} → slots ≡ slotsIn present i → {first begun : List ℕ} → length (rowBytes (keptRow links marks count i)) ≤ length first
     → begun ≡ front (ones slots ∷ []) first → WritingMoves links marks count i 0 1 first begun
 unfolding moveBytes
@@ -89,7 +89,7 @@ module _ {links marks : List ℕ} {count i slot at : ℕ} {first out : List ℕ}
         in-front = on .wrote .in-front ∙ ap (λ (b : List ℕ). front b first) bytes;
       }
 
-module _ {links marks present : List ℕ} {count i : ℕ} (lists : SettledLists count links marks present)
+module _ {links marks present : List ℕ} {count i : ℕ} (lists : SiftedLists count links marks present)
     (state : List·Memᴰ i (keptStates links marks count)) {first out : List ℕ} {at rest from : ℕ}
     (left : Left (slotsIn present i) rest from) (on : WritingMoves links marks count i from at first out) where
   abbrev here : i < count

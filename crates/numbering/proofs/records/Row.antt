@@ -19,12 +19,12 @@ use Rattle.table.specs.Lists.{slotsOf, linksOf, presentOf, marksOf, numbersOf}
 use Rattle.table.proofs.Lists.{numbers-at}
 use Rattle.numbering.specs.Table.{statesAt, keptRowAt}
 use Rattle.numbering.specs.Writing.{RowToWrite}
-use Rattle.lists.proofs.numbering.Kept.{SettledLists, all-left}
+use Rattle.lists.proofs.numbering.Kept.{SiftedLists, all-left}
 use Rattle.lists.proofs.numbering.Moves.{moveBy, state-below}
 use Rattle.lists.proofs.numbering.Counts.{moves-few}
 use Rattle.lists.proofs.numbering.Row as Row
 use Rattle.lists.proofs.numbering.Row.{WritingMoves, row-begun, row-written, row-next}
-use Rattle.numbering.proofs.records.Held.{settled-lists, slots-held, link-held}
+use Rattle.numbering.proofs.records.Held.{sifted-lists, slots-held, link-held}
 
 -- the row of situation i on its way: `rest` of its slots are left, and the moves of those before them are written up to `at`
 pub record WritingRow (count i : ℕ) (work : List Record) (first out : List ℕ) (at rest : ℕ) : Type 0 where
@@ -33,15 +33,15 @@ pub record WritingRow (count i : ℕ) (work : List Record) (first out : List ℕ
   pub moves : WritingMoves (linksOf work) (marksOf work) count i from at first out
 
 module _ {count i : ℕ} (work : List Record) {first : List ℕ} (writing : RowToWrite count i work first) where
-  lists : SettledLists count (linksOf work) (marksOf work) (presentOf work)
-  lists = settled-lists work (writing .settled)
+  lists : SiftedLists count (linksOf work) (marksOf work) (presentOf work)
+  lists = sifted-lists work (writing .sifted)
 
   here : i < count
   unfolding statesAt
   here = state-below lists i (writing .state)
 
   pub row-there : i < length work
-  row-there = omega (arith, here, writing .settled .room)
+  row-there = omega (arith, here, writing .sifted .room)
 
   pub count-room : 1 ≤ length first
   count-room = Row.row-room (keptRowAt count i work) (writing .room)
@@ -102,7 +102,7 @@ module _ {count i : ℕ} (work : List Record) {first : List ℕ} (writing : RowT
                 linked,
                 link-named,
                 Row.link-within lists (writing .state) (on .left) (on .moves) (writing .numbers) some,
-                writing .settled .room,
+                writing .sifted .room,
               )
 
           module _ {z : Record} (z-is : z ≡ getD work t blank) where
