@@ -50,11 +50,11 @@ def with_numbers(text, crate):
 
 
 class Source:
-    """A crate's functions, structs and imports, as its src has them."""
+    """A crate's functions, structs, enums and imports, as its src has them."""
 
     def __init__(self, crate):
         self.crate = crate
-        self.structs, self.modules, self.functions = {}, {}, {}
+        self.structs, self.enums, self.modules, self.functions = {}, set(), {}, {}
         for file in sorted(Path('crates', crate, 'src').glob('*.rt')):
             self.read(file.name, file.read_text())
 
@@ -65,8 +65,11 @@ class Source:
             module = re.sub(r'Rattle·(\w+)·specs\.specs', r'Rattle·\1.specs', module.strip())
             for n in names.split(','):
                 uses[n.strip()] = module
-        for name, body in re.findall(r'struct (\w+) \{([^}]*)\}', text):
-            self.structs[name] = re.findall(r'pub (\w+): ([^,]+),', body + ',')
+        for form, name, body in re.findall(r'(struct|enum) (\w+) \{([^}]*)\}', text):
+            if form == 'enum':
+                self.enums.add(name)
+            else:
+                self.structs[name] = re.findall(r'pub (\w+): ([^,]+),', body + ',')
             self.modules[name] = inside.replace('::', '.')
         marks = [(m.start(), m.group(1)) for m in re.finditer(r'^impl (\w+)', text, re.M)]
         for m in re.finditer(r'^( *)(?:pub )?(?:extern "C" )?fn (\w+)\(([^)]*)\)(?: -> ([\w:\[\]; ]+?))?\s*(?=[{]|requires|ensures)', text, re.M):
@@ -129,7 +132,8 @@ class Value:
             self.crate, self.struct = owner, struct
             self.row, self.denot, self.ty = f'{struct}-row.the-row', struct, f'{struct}-laws.mir'
             self.spells, self.tells = f'(λ d. {struct}-laws.lowered d ∷ [])', f'({struct}-laws.lowers .val-is)'
-            self.makes = f'(LL.makes {struct}-row.the-type {struct}-laws.the-plain 𝓤 H A)'
+            self.enum = struct in source(owner).enums
+            self.makes = f'({"EL" if self.enum else "LL"}.makes {struct}-row.the-type {struct}-laws.the-plain 𝓤 H A)'
 
     def val(self, t):
         if self.width:
@@ -145,7 +149,8 @@ class Value:
             return '(tt, tt)'
         if self.name.startswith('['):
             return f'({self.lawful} .typed {t} _ {proof} .0)'
-        return f'(LL.lawful {self.struct}-row.the-type {self.struct}-laws.the-laws 𝓤 H A W .typed {t} _ {proof} .0)'
+        lawful, few = ('EL.lawful', ' tt') if self.enum else ('LL.lawful', '')
+        return f'({lawful} {self.struct}-row.the-type {self.struct}-laws.the-laws 𝓤 H A W{few} .typed {t} _ {proof} .0)'
 
     # the relation, from what a walk has of it: of a number that it fits
     def relation(self, proof):

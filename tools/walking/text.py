@@ -59,7 +59,7 @@ def imports(body, crate, more):
     for w in re.findall(r'[^\s(){},;]+', body):
         used |= {w, w.rstrip('.'), w.split('.')[0]}
     lines, seen = [], set()
-    table = [(f'{proofs_of(HOME, crate)}.{module}', names) for module, names in library()] + [('denote.Struct.Laws as LL', None), ('borrow.Struct.Behind as Behind', None)]
+    table = [(f'{proofs_of(HOME, crate)}.{module}', names) for module, names in library()] + [('denote.Struct.Laws as LL', None), ('denote.Enum.Laws as EL', None), ('borrow.Struct.Behind as Behind', None)]
     table += [(m, sorted(n) if n else None) for m, n in more]
     for module, names in table:
         if names is None:
