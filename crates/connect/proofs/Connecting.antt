@@ -6,6 +6,8 @@ use mathlib.Core.List.{List, [], _∷_, List·Memᴰ, List·Memᴰ·not-nil}
 use Prim.Native.Nat.{ℕ, zero, suc, _≤_, _<_}
 use native.Mathlib.Omega.{arith}
 use lib.ListN.{length, getD, replicate}
+use Rattle.moves.specs.declared.Mode.{Mode}
+use Rattle.moves.specs.Modes.{testOf}
 use Rattle.model.specs.Contract.{Contract}
 use Rattle.model.specs.Sheet.{plain, contractIn}
 use Rattle.model.specs.Situation.{Situation, start, alike, same, codes, next}
@@ -81,17 +83,17 @@ module _ (k : ℕ) (old new : List ℕ) (limit count : ℕ) (ys ys′ : List Rec
       go (s ∷ l) m = omega arith
 
   -- 11
-  pub writes-over : count ≡ 0 → limit ≡ limitOf (length ys) → (r : Answer) (plan : List ℕ)
+  pub writes-over : (mode : Mode) → count ≡ 0 → limit ≡ limitOf (length ys) → (r : Answer) (plan : List ℕ)
       → answerOf r ≡ refusing 11 0 0
-      → Writes (connectedFrom k old new (length ys) (length plan)) r plan plan
+      → Writes (connectedFrom mode k old new (length ys) (length plan)) r plan plan
   unfolding connected found refused plain refusing
-  writes-over none l r plan a =
-      subst (λ (limit : ℕ). Writes (connected k σ τ limit (length plan)) r plan plan) l (go (search .todo) refl)
+  writes-over mode none l r plan a =
+      subst (λ (limit : ℕ). Writes (connected (testOf mode old new) k σ τ limit (length plan)) r plan plan) l (go (search .todo) refl)
     where
-      go : (t : List Situation) → search .todo ≡ t → Writes (connected k σ τ limit (length plan)) r plan plan
+      go : (t : List Situation) → search .todo ≡ t → Writes (connected (testOf mode old new) k σ τ limit (length plan)) r plan plan
       go [] e = absurd (count-none (search .todo) (length (search .done)) (sym (explored .answer) ∙ none) (some-found e) e)
       go (s ∷ t) e =
-          subst⁻¹ (λ (o : Outcome). Writes o r plan plan) (ap (found k σ τ (length plan) (search .done)) e)
+          subst⁻¹ (λ (o : Outcome). Writes o r plan plan) (ap (found (testOf mode old new) k σ τ (length plan) (search .done)) e)
           (record { answer = a; written = sym (front-none plan) })
 
   module _ (old-sheet : IsSheet old) (new-sheet : IsSheet new) (rank : k ≤ 3) (some : count ≡ 0 → ⊥) where
@@ -126,13 +128,13 @@ module _ (k : ℕ) (old new : List ℕ) (limit count : ℕ) (ys ys′ : List Rec
       some-total = omega (arith, is-total, some-found whole)
 
       -- what follows
-      pub writes-whole : (r : Answer) (plan plan′ : List ℕ) → Writes (relatedFrom k old new total ys′ (length plan)) r plan plan′
-          → Writes (connectedFrom k old new (length ys) (length plan)) r plan plan′
+      pub writes-whole : (mode : Mode) (r : Answer) (plan plan′ : List ℕ) → Writes (relatedFrom mode k old new total ys′ (length plan)) r plan plan′
+          → Writes (connectedFrom mode k old new (length ys) (length plan)) r plan plan′
       unfolding connected found
-      writes-whole r plan plan′ w =
-          let over-found : relatedIn k σ τ (keysOf ys′) (linksOf ys′) total (length plan) ≡ related k σ τ (length plan) (search .done) =
-          ap (λ (n : ℕ). relatedIn k σ τ (keysOf ys′) (linksOf ys′) n (length plan)) (sym is-total)
-          ∙ related-table k σ τ limit (keysOf ys′) (linksOf ys′) held (length plan) in
-          subst (λ (limit : ℕ). Writes (connected k σ τ limit (length plan)) r plan plan′) limit-is
-          (subst⁻¹ (λ (o : Outcome). Writes o r plan plan′) (ap (found k σ τ (length plan) (search .done)) whole)
+      writes-whole mode r plan plan′ w =
+          let over-found : relatedIn (testOf mode old new) k (σ .n) (keysOf ys′) (linksOf ys′) total (length plan) ≡ related (testOf mode old new) k σ τ (length plan) (search .done) =
+          ap (λ (n : ℕ). relatedIn (testOf mode old new) k (σ .n) (keysOf ys′) (linksOf ys′) n (length plan)) (sym is-total)
+          ∙ related-table k σ τ limit (keysOf ys′) (linksOf ys′) held (testOf mode old new) (length plan) in
+          subst (λ (limit : ℕ). Writes (connected (testOf mode old new) k σ τ limit (length plan)) r plan plan′) limit-is
+          (subst⁻¹ (λ (o : Outcome). Writes o r plan plan′) (ap (found (testOf mode old new) k σ τ (length plan) (search .done)) whole)
           (subst (λ (o : Outcome). Writes o r plan plan′) over-found w))

@@ -1,12 +1,17 @@
 -- Connecting any bytes, by cases: refused as a pair, refused for k, or what follows; and what was lent as it is afterwards.
 -- Assumes nothing.
-use mathlib.Core.Path.{_≡_, refl, sym, ap, _∙_}
-use mathlib.Core.Bool.{true, false, cond}
+use mathlib.Core.Path.{_≡_, refl, sym, ap, subst, _∙_}
+use mathlib.Core.Bool.{Bool, true, false, cond}
 use mathlib.Core.List.{List, [], _∷_, _++_, map}
 use Prim.Native.Nat.{ℕ, zero, _≤_, _<_}
 use native.Mathlib.Omega.{arith}
 use lib.ListN.{length, drop}
 use borrow.Author.Tests.{le-leb, lt-leb, ne-eqb, le-ltb}
+use Rattle.model.specs.Situation.{Situation}
+use Rattle.model.specs.Test as model-test
+use Rattle.model.specs.Test.{paper}
+use Rattle.moves.specs.declared.Mode.{Mode}
+use Rattle.moves.specs.Modes.{modeOf, testOf}
 use Rattle.model.specs.Contract.{Contract}
 use Rattle.model.specs.Sheet.{readBoth, contractIn, plain}
 use Rattle.model.specs.Connect as model
@@ -46,7 +51,7 @@ module _ (old new : List ℕ) (k : ℕ) (pair : Pair) (is-pair : pair ≡ pairOf
         new-sheet = λ z. absurd (omega (arith, n .0));
         rank = λ z. absurd (omega (arith, n .0));
         good = λ z. absurd (omega (arith, n .0));
-        bad = λ _ records room. ap (ranked k records room) read ∙ ap (λ (a : model.Answer). record { answer = a; bytes = [] }) (sym a);
+        bad = λ _ mode records room. ap (ranked (modeOf mode) k records room) read ∙ ap (λ (a : model.Answer). record { answer = a; bytes = [] }) (sym a);
         uncleared = λ _. not-cleared (r .number) (omega (arith, n .0)) (omega (arith, n .1));
       }
 
@@ -61,8 +66,8 @@ module _ (old new : List ℕ) (k : ℕ) (pair : Pair) (is-pair : pair ≡ pairOf
           rank = λ z. absurd (omega arith);
           good = λ z. absurd (omega arith);
           bad =
-              λ _ records room.
-              ap (ranked k records room) (good-both 0 0 old new pair is-pair is-good)
+              λ _ mode records room.
+              ap (ranked (modeOf mode) k records room) (good-both 0 0 old new pair is-pair is-good)
               ∙ rw (lt-leb k 3 high) (ap (λ (a : model.Answer). record { answer = a; bytes = [] }) (sym a));
           uncleared = λ _. not-cleared (r .number) (omega arith) (omega arith);
         }
@@ -77,18 +82,18 @@ module _ (old new : List ℕ) (k : ℕ) (pair : Pair) (is-pair : pair ≡ pairOf
           old-sheet = λ _. sheets .0;
           new-sheet = λ _. sheets .1;
           rank = λ _. low;
-          good = λ _ records room. ap (ranked k records room) read ∙ rw (le-leb k 3 low) refl;
+          good = λ _ mode records room. ap (ranked (modeOf mode) k records room) read ∙ rw (le-leb k 3 low) refl;
           bad = λ n. absurd (n e);
           uncleared = λ n. absurd (n e);
         }
 
 -- ---- the whole outcome
 
-connected-clears : (k : ℕ) (σ τ : Contract) (limit room : ℕ) → clears (connected k σ τ limit room .answer .number) ≡ true
+connected-clears : (tested : List ℕ → Situation → Bool) (k : ℕ) (σ τ : Contract) (limit room : ℕ) → clears (connected tested k σ τ limit room .answer .number) ≡ true
 unfolding clears refused counted plain
-connected-clears k σ τ limit room = go (shape k σ τ limit room)
+connected-clears tested k σ τ limit room = go (shape k σ τ limit tested room)
   where
-    go : Shape k σ τ limit room → clears (connected k σ τ limit room .answer .number) ≡ true
+    go : Shape k σ τ limit tested room → clears (connected tested k σ τ limit room .answer .number) ≡ true
     go (cut-off n e) = rw e refl
     go (removed w n e) = rw e refl
     go (too-long w m l e) = rw e refl
@@ -101,7 +106,7 @@ cleared-same [] (y ∷ b) e = absurd (omega arith)
 cleared-same (x ∷ a) [] e = absurd (omega arith)
 cleared-same (x ∷ a) (y ∷ b) e = ap (λ (l : List Record). blank ∷ l) (cleared-same a b (omega arith))
 
-module _ (k : ℕ) (old new : List ℕ) (work : List Record) (plan : List ℕ) where
+module _ (mode : Mode) (k : ℕ) (old new : List ℕ) (work : List Record) (plan : List ℕ) where
   -- the whole outcome, by its answer and bytes
   abbrev whole : Outcome → Connected Record
   whole o =
@@ -111,32 +116,38 @@ module _ (k : ℕ) (old new : List ℕ) (work : List Record) (plan : List ℕ) w
         work = cond (clears (o .answer .number)) (map (λ r. blank) work) work;
       }
 
-  is-whole : whole (outcomeOf (length work) (length plan) k old new) ≡ connectOf blank k old new work plan
+  is-whole : whole (outcomeOf (modeOf mode) (length work) (length plan) k old new) ≡ connectOf blank (modeOf mode) k old new work plan
   unfolding connectOf
   is-whole = refl
 
   -- refused before situations are counted: nothing changes
   pub connect-refused : {r : Answer} → Admits k old new r → (r .number ≡ 0 → ⊥)
-      → record { answer = answerOf r; plan = plan; work = work } ≡ connectOf blank k old new work plan
+      → record { answer = answerOf r; plan = plan; work = work } ≡ connectOf blank (modeOf mode) k old new work plan
   unfolding answerOf
   connect-refused {r} c n =
       let kept : work ≡ cond (clears (r .number)) (map (λ r. blank) work) work = rw (c .uncleared n) refl in
       (λ i. record { answer = answerOf r; plan = plan; work = kept i })
-      ∙ ap whole (sym (c .bad n (length work) (length plan))) ∙ is-whole
+      ∙ ap whole (sym (c .bad n mode (length work) (length plan))) ∙ is-whole
 
   -- or what follows, and all records cleared
   pub connect-done : {first r : Answer} {plan′ : List ℕ} {work′ : List Record} (between : List Record) → Admits k old new first
       → first .number ≡ 0
-      → Writes (connected k (contractIn old) (contractIn new) (limitOf (length work)) (length plan)) r plan plan′
+      → Writes (connected (testOf mode old new) k (contractIn old) (contractIn new) (limitOf (length work)) (length plan)) r plan plan′
       → length between ≡ length work
       → work′ ≡ cleared between
-      → record { answer = answerOf r; plan = plan′; work = work′ } ≡ connectOf blank k old new work plan
+      → record { answer = answerOf r; plan = plan′; work = work′ } ≡ connectOf blank (modeOf mode) k old new work plan
   unfolding front
   connect-done {first} {r} {plan′} {work′} between c e w long is-cleared =
       let σ = contractIn old in
       let τ = contractIn new in
-      let o = connected k σ τ (limitOf (length work)) (length plan) in
+      let o = connected (testOf mode old new) k σ τ (limitOf (length work)) (length plan) in
       let zero : work′ ≡ cond (clears (o .answer .number)) (map (λ r. blank) work) work =
-      rw (connected-clears k σ τ (limitOf (length work)) (length plan)) (is-cleared ∙ cleared-same between work long) in
+      rw (connected-clears (testOf mode old new) k σ τ (limitOf (length work)) (length plan)) (is-cleared ∙ cleared-same between work long) in
       (λ i. record { answer = w .answer i; plan = w .written i; work = zero i })
-      ∙ ap whole (sym (c .good e (length work) (length plan))) ∙ is-whole
+      ∙ ap whole (sym (c .good e mode (length work) (length plan))) ∙ is-whole
+
+-- ---- without a mode
+
+pub connect-unnamed : (k : ℕ) (old new : List ℕ) (work : List Record) (plan : List ℕ) (mode : Mode) → modeOf mode ≡ paper
+    → {whole : Connected Record} → whole ≡ connectOf blank (modeOf mode) k old new work plan → whole ≡ connectOf blank paper k old new work plan
+connect-unnamed k old new work plan mode e {whole} is = subst (λ (mode : model-test.Mode). whole ≡ connectOf blank mode k old new work plan) e is

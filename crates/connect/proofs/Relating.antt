@@ -9,8 +9,9 @@ use lib.ListN.{length, getD}
 use lib.Dec.{eqb}
 use borrow.Author.Tests.{eq-eqb, ne-eqb}
 use Rattle.model.specs.Lists.{any, keep, upto}
-use Rattle.model.specs.Contract.{Contract}
-use Rattle.model.specs.Situation.{codes}
+use Rattle.moves.specs.declared.Mode.{Mode}
+use Rattle.moves.specs.Modes.{testOf}
+use Rattle.model.specs.Situation.{Situation, codes}
 use Rattle.model.specs.Search.{member}
 use Rattle.model.specs.Rounds.{Sifted}
 use Rattle.model.specs.Plan.{planRows}
@@ -56,31 +57,31 @@ start-unmarked marks (suc count) h = go (eqb (getD marks 0 0) 0)
 
 -- ---- the rounds decide
 
-module _ (k : ℕ) (σ τ : Contract) (keys links : List ℕ) (count room rounds : ℕ) (marks marks′ : List ℕ)
-    (done : SiftedDone σ τ keys links count rounds marks marks′) (some : 0 < count) where
+module _ (tested : List ℕ → Situation → Bool) (k n : ℕ) (keys links : List ℕ) (count room rounds : ℕ) (marks marks′ : List ℕ)
+    (done : SiftedDone tested keys links count rounds marks marks′) (some : 0 < count) where
   abbrev left : Sifted ℕ
-  left = siftedIn σ τ keys links count
+  left = siftedIn tested keys links count
 
   start-stays : member eqb 0 (left .kept) ≡ eqb (getD marks′ 0 0) 0
   start-stays = ap (member eqb 0) (sym (done .kept-are)) ∙ start-unmarked marks′ count some
 
-  related-removed : (getD marks′ 0 0 ≡ 0 → ⊥) → relatedIn k σ τ keys links count room ≡ counted 12 count 0 rounds []
+  related-removed : (getD marks′ 0 0 ≡ 0 → ⊥) → relatedIn tested k n keys links count room ≡ counted 12 count 0 rounds []
   unfolding relatedIn
-  related-removed n = rw (start-stays, ne-eqb (getD marks′ 0 0) 0 n) (ap (λ (r : ℕ). counted 12 count 0 r []) (sym (done .rounds-are)))
+  related-removed gone = rw (start-stays, ne-eqb (getD marks′ 0 0) 0 gone) (ap (λ (r : ℕ). counted 12 count 0 r []) (sym (done .rounds-are)))
 
   related-kept : getD marks′ 0 0 ≡ 0
-      → relatedIn k σ τ keys links count room ≡ emitted (σ .n) k room count rounds (keptRows links marks′ count)
+      → relatedIn tested k n keys links count room ≡ emitted n k room count rounds (keptRows links marks′ count)
   unfolding relatedIn keptRows
   related-kept e =
       let r = sym (done .rounds-are) in
       let kept = sym (done .kept-are) in
-      rw (start-stays, eq-eqb (getD marks′ 0 0) 0 e) (λ i. emitted (σ .n) k room count (r i) (planRows eqb codes (nextIn links) (kept i) 0))
+      rw (start-stays, eq-eqb (getD marks′ 0 0) 0 e) (λ i. emitted n k room count (r i) (planRows eqb codes (nextIn links) (kept i) 0))
 
 -- ---- the records after the rounds
 
-module _ (k : ℕ) (old new : List ℕ) (count rounds : ℕ) (ys : List Record) {ys′ : List Record} (searched : SearchedTable old new count ys)
+module _ (mode : Mode) (k : ℕ) (old new : List ℕ) (count rounds : ℕ) (ys : List Record) {ys′ : List Record} (searched : SearchedTable old new count ys)
     (some : 0 < count)
-    (sifted : SiftedWork (contractIn old) (contractIn new) count rounds ys ys′) where
+    (sifted : SiftedWork (testOf mode old new) count rounds ys ys′) where
   pub start-there : 0 < length ys′
   start-there = omega (arith, searched .situated .room, sifted .size)
 
@@ -90,10 +91,10 @@ module _ (k : ℕ) (old new : List ℕ) (count rounds : ℕ) (ys : List Record) 
 
     -- 12
     pub relate-removed : (y .mark ≡ 0 → ⊥) → (r : Answer) (plan : List ℕ) → answerOf r ≡ counting 12 count 0 rounds 0
-        → Writes (relatedFrom k old new count ys (length plan)) r plan plan
+        → Writes (relatedFrom mode k old new count ys (length plan)) r plan plan
     relate-removed n r plan a =
         subst⁻¹ (λ (o : Outcome). Writes o r plan plan)
-        (related-removed k (contractIn old) (contractIn new) (keysOf ys) (linksOf ys) count (length plan) rounds (marksOf ys) (marksOf ys′)
+        (related-removed (testOf mode old new) k (contractIn old .n) (keysOf ys) (linksOf ys) count (length plan) rounds (marksOf ys) (marksOf ys′)
         (sifted .done) some (λ e. n (sym start-mark ∙ e)))
         (writes-none 12 count 0 rounds r plan a)
 
@@ -117,11 +118,11 @@ module _ (k : ℕ) (old new : List ℕ) (count rounds : ℕ) (ys : List Record) 
 
       -- 13 or acceptance
       pub relate-kept : (r : Answer) (plan plan′ : List ℕ) → Writes (emittedFrom k old count rounds ys′ (length plan)) r plan plan′
-          → Writes (relatedFrom k old new count ys (length plan)) r plan plan′
+          → Writes (relatedFrom mode k old new count ys (length plan)) r plan plan′
       unfolding keptRowsAt
       relate-kept r plan plan′ w =
           subst⁻¹ (λ (o : Outcome). Writes o r plan plan′)
-          (related-kept k (contractIn old) (contractIn new) (keysOf ys) (linksOf ys) count (length plan) rounds (marksOf ys) (marksOf ys′)
+          (related-kept (testOf mode old new) k (contractIn old .n) (keysOf ys) (linksOf ys) count (length plan) rounds (marksOf ys) (marksOf ys′)
           (sifted .done) some (start-mark ∙ kept))
           (subst (λ (links : List ℕ). Writes
           (emitted (contractIn old .n) k (length plan) count rounds (keptRows links (marksOf ys′) count)) r plan plan′)

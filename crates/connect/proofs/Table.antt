@@ -14,7 +14,6 @@ use borrow.Author.Tests.{eqb-true, eqb-false}
 use Rattle.model.specs.Lists.{place, upto, Distinct}
 use Rattle.model.specs.Contract.{Contract}
 use Rattle.model.specs.Situation.{Situation, start, alike, same, codes, next}
-use Rattle.model.specs.Test.{test}
 use Rattle.model.specs.Search.{at-start, Search, member, addAll, search, searchFrom}
 use Rattle.model.specs.Rounds.{Sifted, sifted}
 use Rattle.model.specs.Plan.{planRows}
@@ -147,24 +146,8 @@ module _ (k : ℕ) (σ τ : Contract) (limit : ℕ) where
         sym (getD-take count keys i 0 p) ∙ ap (λ (l : List ℕ). getD l i 0) (h .keys-hold) ∙ getD-map-in keyOf done i 0 start p in
         ap situationIn there ∙ key-back (name i) (h .fits (name i) (getD-mem done i start p))
 
-    -- ---- rounds and rows over numbers
-
-    abbrev left : Sifted ℕ
-    left = siftedIn σ τ keys links count
-
     all-within : AllIn Domain (upto 0 count)
     all-within a m = omega (arith, upto-mem count 0 a m)
-
-    kept-within : AllIn Domain (left .kept)
-    unfolding siftedIn testIn
-    kept-within = sifted-within renumbering (testIn σ τ keys) (upto 0 count) all-within
-
-    sifted-table : siftedOf k σ τ done ≡ siftedNamed name left
-    unfolding siftedOf siftedIn testIn
-    sifted-table =
-        ap (sifted same codes nx (test σ τ)) (sym (places-all done [] start))
-        ∙ sifted-renumber renumbering (testIn σ τ keys) (test σ τ) (λ A i p. ap (test σ τ A) (sym (key-names i p))) (upto 0 count)
-        all-within
 
     -- ---- the start
 
@@ -185,25 +168,42 @@ module _ (k : ℕ) (σ τ : Contract) (limit : ℕ) where
         go [] m = absurd (List·Memᴰ·not-nil m)
         go (s ∷ l) m = omega arith
 
-    rows-table : rowsFor k σ τ (siftedOf k σ τ done .kept) ≡ planRows eqb codes (nextIn links) (left .kept) 0
-    unfolding rowsFor
-    rows-table =
-        ap (λ (r : Sifted Situation). planRows same codes nx (r .kept) start) sifted-table
-        ∙ ap (λ (s : Situation). planRows same codes nx (map name (left .kept)) s) (sym start-named)
-        ∙ plan-rows-renumber renumbering (left .kept) 0 kept-within start-there
+    -- ---- rounds and rows over numbers
 
-    -- the start is kept exactly if its number is
-    start-table : member same start (siftedOf k σ τ done .kept) ≡ member eqb 0 (left .kept)
-    start-table =
-        ap (λ (r : Sifted Situation). member same start (r .kept)) sifted-table
-        ∙ ap (λ (s : Situation). member same s (map name (left .kept))) (sym start-named)
-        ∙ member-renumber renumbering 0 (left .kept) start-there kept-within
+    module _ (tested : List ℕ → Situation → Bool) where
+      abbrev left : Sifted ℕ
+      left = siftedIn tested keys links count
 
-    -- what follows the search is the same over numbers
-    pub related-table : (room : ℕ) → relatedIn k σ τ keys links count room ≡ related k σ τ room done
-    unfolding relatedIn related
-    related-table room =
-        let rounds : left .rounds ≡ siftedOf k σ τ done .rounds = ap (λ (r : Sifted Situation). r .rounds) (sym sifted-table) in
-        let rows = sym rows-table in
-        let stays = sym start-table in
-        λ i. cond (stays i) (emitted (σ .n) k room count (rounds i) (rows i)) (counted 12 count 0 (rounds i) [])
+      kept-within : AllIn Domain (left .kept)
+      unfolding siftedIn testIn
+      kept-within = sifted-within renumbering (testIn tested keys) (upto 0 count) all-within
+
+      sifted-table : siftedOf tested k σ τ done ≡ siftedNamed name left
+      unfolding siftedOf siftedIn testIn
+      sifted-table =
+          ap (sifted same codes nx tested) (sym (places-all done [] start))
+          ∙ sifted-renumber renumbering (testIn tested keys) tested (λ A i p. ap (tested A) (sym (key-names i p))) (upto 0 count)
+          all-within
+
+      rows-table : rowsFor k σ τ (siftedOf tested k σ τ done .kept) ≡ planRows eqb codes (nextIn links) (left .kept) 0
+      unfolding rowsFor
+      rows-table =
+          ap (λ (r : Sifted Situation). planRows same codes nx (r .kept) start) sifted-table
+          ∙ ap (λ (s : Situation). planRows same codes nx (map name (left .kept)) s) (sym start-named)
+          ∙ plan-rows-renumber renumbering (left .kept) 0 kept-within start-there
+
+      -- the start is kept exactly if its number is
+      start-table : member same start (siftedOf tested k σ τ done .kept) ≡ member eqb 0 (left .kept)
+      start-table =
+          ap (λ (r : Sifted Situation). member same start (r .kept)) sifted-table
+          ∙ ap (λ (s : Situation). member same s (map name (left .kept))) (sym start-named)
+          ∙ member-renumber renumbering 0 (left .kept) start-there kept-within
+
+      -- what follows the search is the same over numbers
+      pub related-table : (room : ℕ) → relatedIn tested k (σ .n) keys links count room ≡ related tested k σ τ room done
+      unfolding relatedIn related
+      related-table room =
+          let rounds : left .rounds ≡ siftedOf tested k σ τ done .rounds = ap (λ (r : Sifted Situation). r .rounds) (sym sifted-table) in
+          let rows = sym rows-table in
+          let stays = sym start-table in
+          λ i. cond (stays i) (emitted (σ .n) k room count (rounds i) (rows i)) (counted 12 count 0 (rounds i) [])

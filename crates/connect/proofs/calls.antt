@@ -2,10 +2,12 @@
 pub mod Checked
 pub mod Connect
 pub mod ConnectChecked
+pub mod ConnectMode
 pub mod Emit
 pub mod Fits
 pub mod LimitOf
 pub mod Refusal
 pub mod Relate
+pub mod Unnamed
 pub mod Wide
 pub mod WithCounts

@@ -8,6 +8,8 @@ use Rattle.model.specs.Sheet.{contractIn}
 use Rattle.model.specs.Connect as model
 use Rattle.model.specs.Connect.{Outcome, connected, limitOf, outcomeOf, clears}
 use Rattle.sheet.specs.Whole.{IsSheet}
+use Rattle.moves.specs.declared.Mode.{Mode}
+use Rattle.moves.specs.Modes.{modeOf, testOf}
 use Rattle.little_endian.specs.Front.{front}
 use Rattle.connect.specs.declared.Answer.{Answer}
 
@@ -34,8 +36,8 @@ counting number situations states rounds length =
     record { number = number; sheet = 0; state = 0; situations = situations; states = states; rounds = rounds; length = length }
 
 -- what follows for two sheets that are admitted, with so many records and so much room lent
-abbrev pub connectedFrom : (k : ℕ) (old new : List ℕ) (records room : ℕ) → Outcome
-connectedFrom k old new records room = connected k (contractIn old) (contractIn new) (limitOf records) room
+abbrev pub connectedFrom : Mode → (k : ℕ) (old new : List ℕ) (records room : ℕ) → Outcome
+connectedFrom mode k old new records room = connected (testOf mode old new) k (contractIn old) (contractIn new) (limitOf records) room
 
 -- an outcome is answered, and its bytes stand in front of the lent plan
 pub record Writes (o : Outcome) (r : Answer) (plan plan′ : List ℕ) : Type 0 where
@@ -48,6 +50,6 @@ pub record Admits (k : ℕ) (old new : List ℕ) (r : Answer) : Type 0 where
   pub old-sheet : r .number ≡ 0 → IsSheet old
   pub new-sheet : r .number ≡ 0 → IsSheet new
   pub rank : r .number ≡ 0 → k ≤ 3
-  pub good : r .number ≡ 0 → (records room : ℕ) → outcomeOf records room k old new ≡ connectedFrom k old new records room
-  pub bad : (r .number ≡ 0 → ⊥) → (records room : ℕ) → outcomeOf records room k old new ≡ record { answer = answerOf r; bytes = [] }
+  pub good : r .number ≡ 0 → (mode : Mode) (records room : ℕ) → outcomeOf (modeOf mode) records room k old new ≡ connectedFrom mode k old new records room
+  pub bad : (r .number ≡ 0 → ⊥) → (mode : Mode) (records room : ℕ) → outcomeOf (modeOf mode) records room k old new ≡ record { answer = answerOf r; bytes = [] }
   pub uncleared : (r .number ≡ 0 → ⊥) → clears (r .number) ≡ false

@@ -4,8 +4,10 @@ ghost use mathlib.Core.Path.{_≡_};
 ghost use Prim.Native.Nat.{_≤_, _<_};
 ghost use lib.ListN.{length};
 ghost use lib.Dec.{leb};
+ghost use Rattle.model.specs.Test.{paper};
 ghost use Rattle.model.specs.Connect.{limitOf, connectOf};
 ghost use Rattle.sheet.specs.Whole.{IsSheet};
+ghost use Rattle.moves.specs.Modes.{modeOf};
 ghost use Rattle.table.specs.Records.{blank};
 ghost use Rattle.table.specs.States.{SearchedTable};
 ghost use Rattle.numbering.specs.Table.{UnnumberedTable};
@@ -123,6 +125,7 @@ fn emit(
 
 // 12, or what follows: the rounds, for `count` situations as the search leaves them.
 fn relate(
+    mode: moves::Mode,
     k: u8,
     old: &[u8],
     new: &[u8],
@@ -133,10 +136,10 @@ fn relate(
     requires searched { ⌜ SearchedTable (now old) (now new) count (now work) ⌝ }
     requires some_situation { ⌜ 0 < count ⌝ }
     ensures written { λ r. ⌜ Writes
-        (relatedFrom k (now (old .entry)) (now (new .entry)) count (now (work .entry)) (length (now (plan .entry)))) r
+        (relatedFrom mode k (now (old .entry)) (now (new .entry)) count (now (work .entry)) (length (now (plan .entry)))) r
         (now (plan .entry)) (now (plan .exit)) ⌝ }
 {
-    let rounds = rounds::sift(old, new, work, count);
+    let rounds = rounds::sift(mode, old, new, work, count);
     let begin = table::load(work, 0);
     if begin.mark != 0 {
         return with_counts(12, count, 0, rounds, 0);
@@ -146,6 +149,7 @@ fn relate(
 
 // 11, or what follows: two service sheets over the same names, and k at most 3.
 fn connect_checked(
+    mode: moves::Mode,
     k: u8,
     old: &[u8],
     new: &[u8],
@@ -156,7 +160,7 @@ fn connect_checked(
     requires new_sheet { ⌜ IsSheet (now new) ⌝ }
     requires rank { ⌜ k ≤ 3 ⌝ }
     ensures written { λ r. ⌜ Writes
-        (connectedFrom k (now (old .entry)) (now (new .entry)) (length (now (work .entry))) (length (now (plan .entry)))) r
+        (connectedFrom mode k (now (old .entry)) (now (new .entry)) (length (now (work .entry))) (length (now (plan .entry)))) r
         (now (plan .entry)) (now (plan .exit)) ⌝ }
 {
     let limit = limit_of(work.len());
@@ -164,19 +168,41 @@ fn connect_checked(
     if count == 0 {
         return refusal(11, 0, 0);
     }
-    relate(k, old, new, work, plan, wide(count))
+    relate(mode, k, old, new, work, plan, wide(count))
 }
 
-// Connects the contracts of two sheets with buffers of rank k.
-pub fn connect(k: u8, old: &[u8], new: &[u8], work: &mut [table::Record], plan: &mut [u8]) -> Answer
+// Connects the contracts of two sheets with buffers of rank k, in a mode.
+pub fn connect_mode(
+    mode: moves::Mode,
+    k: u8,
+    old: &[u8],
+    new: &[u8],
+    work: &mut [table::Record],
+    plan: &mut [u8],
+) -> Answer
     ensures outcome { λ r. ⌜ record { answer = answerOf r; plan = now (plan .exit); work = now (work .exit) }
-        ≡ connectOf blank k (now (old .entry)) (now (new .entry)) (now (work .entry)) (now (plan .entry)) ⌝ }
+        ≡ connectOf blank (modeOf mode) k (now (old .entry)) (now (new .entry)) (now (work .entry)) (now (plan .entry)) ⌝ }
 {
     let first = checked(k, old, new);
     if first.number != 0 {
         return first;
     }
-    let answer = connect_checked(k, old, new, work, plan);
+    let answer = connect_checked(mode, k, old, new, work, plan);
     table::clear(work);
     answer
+}
+
+// The mode where none is named.
+fn unnamed() -> moves::Mode
+    ensures { λ r. ⌜ modeOf r ≡ paper ⌝ }
+{
+    moves::Mode::Paper
+}
+
+// The same without a mode: the paper's.
+pub fn connect(k: u8, old: &[u8], new: &[u8], work: &mut [table::Record], plan: &mut [u8]) -> Answer
+    ensures outcome { λ r. ⌜ record { answer = answerOf r; plan = now (plan .exit); work = now (work .exit) }
+        ≡ connectOf blank paper k (now (old .entry)) (now (new .entry)) (now (work .entry)) (now (plan .entry)) ⌝ }
+{
+    connect_mode(unnamed(), k, old, new, work, plan)
 }

@@ -7,6 +7,7 @@ use Rattle.connect.proofs.connect.Symbol.{name as #connect·connect}
 use Rattle.connect.specs.Answers.{answerOf}
 use Rattle.model.specs.Connect.{connectOf}
 use Rattle.table.specs.Records.{blank}
+use Rattle.model.specs.Test.{paper}
 use Rattle.table.proofs.Record as Record-row
 use Rattle.table.specs.declared.Record.{Record}
 use Rattle.connect.proofs.Answer as Answer-row
@@ -26,20 +27,20 @@ module _ {M : Type 1} (𝓤 : URA M) (H : Heap 𝓤) (A : Atoms 𝓤) (W : Given
       nothing ! $ move ! (8 ∷ 0 ∷ []) $ fjoin ! $ move ! (6 ∷ 0 ∷ []) $ fjoin ! $ move ! (4 ∷ 0 ∷ []) $ fjoin ! $ move ! (2 ∷ 0 ∷ []) $ fjoin ! $ owned ! u8 (Is u8) (uint-makes 𝓤 H A W w8) k _ (refl, fits-k) $ fjoin ! $ nothing ! $ move ! (5 ∷ 0 ∷ []) $ join ! $ move ! (4 ∷ 0 ∷ []) $ join ! $ move ! (3 ∷ 0 ∷ []) $ join ! $ move ! (2 ∷ 0 ∷ []) $ join ! $ join ! $ frame ! $ done !
 
   module _ {Γ : List (Item 𝓤)} where
-    after : (goal· : Val → Goal 𝓤 H) → ((w· : Val) → Soaks (goal· w·)) → ((r : Answer) (work′ : List Record) (plan′ : List ℕ) → (Is Answer-row.the-row r (Answer-laws.lowered r ∷ [])) → (length work′ ≡ length (work .now)) → (length plan′ ≡ length (plan .now)) → (record { answer = answerOf r; plan = plan′; work = work′ } ≡ connectOf blank k ((old .now)) ((new .now)) ((work .now)) ((plan .now))) → Sq W (‵ (flft κ-old q-old) ∷ ‵ (flft κ-new q-new) ∷ ‵ (flft κ-work q-work) ∷ ‵ (finally Record-row.the-row (work .name) work′) ∷ ‵ (flft κ-plan q-plan) ∷ ‵ (finally u8 (plan .name) plan′) ∷ Γ) (goal· (Answer-laws.lowered r))) → (w· : Val) → Sq W (raw (connect-contract 𝓤 H A mem run .post bound w·) ∷ Γ) (goal· w·)
+    after : (goal· : Val → Goal 𝓤 H) → ((w· : Val) → Soaks (goal· w·)) → ((r : Answer) (work′ : List Record) (plan′ : List ℕ) → (Is Answer-row.the-row r (Answer-laws.lowered r ∷ [])) → (length work′ ≡ length (work .now)) → (length plan′ ≡ length (plan .now)) → (record { answer = answerOf r; plan = plan′; work = work′ } ≡ connectOf blank paper k ((old .now)) ((new .now)) ((work .now)) ((plan .now))) → Sq W (‵ (flft κ-old q-old) ∷ ‵ (flft κ-new q-new) ∷ ‵ (flft κ-work q-work) ∷ ‵ (finally Record-row.the-row (work .name) work′) ∷ ‵ (flft κ-plan q-plan) ∷ ‵ (finally u8 (plan .name) plan′) ∷ Γ) (goal· (Answer-laws.lowered r))) → (w· : Val) → Sq W (raw (connect-contract 𝓤 H A mem run .post bound w·) ∷ Γ) (goal· w·)
     after goal· soaks· k· w· =
         use1 W (later (some (λ (r : Answer). ((‵ (flft κ-old q-old) ⊛ ‵ (flft κ-new q-new) ⊛ ‵ (flft κ-work q-work) ⊛ ‵ (flft κ-plan q-plan) ⊛ ‵ ftrue) ⊛ ‵ (Answer-row.the-row .own r (w· ∷ []))) ⊛ raw (ensured 𝓤 H A callee.ended (callee.clauses 𝓤 H A mem run) (κ-old, (κ-new, (κ-work, (κ-plan, tt)))) (k, (old, (new, (work, (plan, tt))))) tt r)))) (id⊢ 𝓤 _) $ await ! (soaks· w·) $ pick ! (λ r. split ! $ move ! (1 ∷ []) $
-        use1 W (some (λ (ws· : Unit {0} × (Unit {0} × (Unit {0} × (List Record × (List ℕ × (Unit {0})))))). ‵ (lasts callee.ended (κ-old, (κ-new, (κ-work, (κ-plan, tt)))) (k, (old, (new, (work, (plan, tt))))) ws·) ⊛ raw (fact 𝓤 (record { answer = answerOf r; plan = (ws· .1 .1 .1 .1 .0); work = (ws· .1 .1 .1 .0) } ≡ connectOf blank k ((old .now)) ((new .now)) ((work .now)) ((plan .now)))))) (id⊢ 𝓤 _) $ pick ! (λ ws·. split ! $ move ! (1 ∷ []) $ heard ! (record { answer = answerOf r; plan = (ws· .1 .1 .1 .1 .0); work = (ws· .1 .1 .1 .0) } ≡ connectOf blank k ((old .now)) ((new .now)) ((work .now)) ((plan .now))) (λ e·.
+        use1 W (some (λ (ws· : Unit {0} × (Unit {0} × (Unit {0} × (List Record × (List ℕ × (Unit {0})))))). ‵ (lasts callee.ended (κ-old, (κ-new, (κ-work, (κ-plan, tt)))) (k, (old, (new, (work, (plan, tt))))) ws·) ⊛ raw (fact 𝓤 (record { answer = answerOf r; plan = (ws· .1 .1 .1 .1 .0); work = (ws· .1 .1 .1 .0) } ≡ connectOf blank paper k ((old .now)) ((new .now)) ((work .now)) ((plan .now)))))) (id⊢ 𝓤 _) $ pick ! (λ ws·. split ! $ move ! (1 ∷ []) $ heard ! (record { answer = answerOf r; plan = (ws· .1 .1 .1 .1 .0); work = (ws· .1 .1 .1 .0) } ≡ connectOf blank paper k ((old .now)) ((new .now)) ((work .now)) ((plan .now))) (λ e·.
         fsplit ! $ drop ! $ fsplit ! $ drop ! $ fsplit ! $ drop ! $ fsplit ! $ fsplit ! $ move ! (1 ∷ []) $ feqL ! (λ l-work. move ! (1 ∷ []) $ fsplit ! $ fsplit ! $ move ! (1 ∷ []) $ feqL ! (λ l-plan. move ! (1 ∷ []) $ drop ! $ move ! (2 ∷ []) $ split ! $ move ! (1 ∷ []) $ peeks ! Answer-row.the-row (Is Answer-row.the-row) (shows 𝓤 H A Answer-row.the-row) r (w· ∷ []) (λ is·. drop ! $ split ! $ move ! (1 ∷ []) $ split ! $ move ! (1 ∷ []) $ split ! $ move ! (1 ∷ []) $ split ! $ move ! (1 ∷ []) $ drop ! $ move ! (3 ∷ 2 ∷ 1 ∷ 5 ∷ 0 ∷ 4 ∷ []) $
         subst (λ (u· : Val). Sq W (‵ (flft κ-old q-old) ∷ ‵ (flft κ-new q-new) ∷ ‵ (flft κ-work q-work) ∷ ‵ (finally Record-row.the-row (work .name) (ws· .1 .1 .1 .0)) ∷ ‵ (flft κ-plan q-plan) ∷ ‵ (finally u8 (plan .name) (ws· .1 .1 .1 .1 .0)) ∷ Γ) (goal· u·)) (sym (ap only ((Answer-laws.lowers .val-is) r (w· ∷ []) is·))) (k· r (ws· .1 .1 .1 .0) (ws· .1 .1 .1 .1 .0) (subst (λ (us : List Val). Is Answer-row.the-row r us) ((Answer-laws.lowers .val-is) r (w· ∷ []) is·) is·) l-work l-plan e·)))))))
 
     module _ {C : Calls 𝓤 H} {Λ : Loops 𝓤 H} {E· : Env 𝓤 H} {p· : Post 𝓤 H} {d· : Place} {xs· : List Operand} where
       pub calls-connect : {rest· : Body} → FmC 𝓤 H (W .laws) C → Triple 𝓤 (C #connect·connect) (connect-contract 𝓤 H A mem run) → (k < 2 ^ 8) → Opds (Go {0}) W (raw (connect-contract 𝓤 H A mem run .pre bound) ∷ Γ) E· xs· (vint w8 k ∷ s-old ∷ s-new ∷ s-work ∷ s-plan ∷ [])
-          → ((r : Answer) (work′ : List Record) (plan′ : List ℕ) → (Is Answer-row.the-row r (Answer-laws.lowered r ∷ [])) → (length work′ ≡ length (work .now)) → (length plan′ ≡ length (plan .now)) → (record { answer = answerOf r; plan = plan′; work = work′ } ≡ connectOf blank k ((old .now)) ((new .now)) ((work .now)) ((plan .now))) → Sq W (‵ (flft κ-old q-old) ∷ ‵ (flft κ-new q-new) ∷ ‵ (flft κ-work q-work) ∷ ‵ (finally Record-row.the-row (work .name) work′) ∷ ‵ (flft κ-plan q-plan) ∷ ‵ (finally u8 (plan .name) plan′) ∷ Γ) (lands C Λ E· d· (Answer-laws.lowered r) rest· p·)) → Sq W (‵ (flft κ-old q-old) ∷ ‵ (ShrSlice (named 0) κ-old u8 .own old (s-old ∷ [])) ∷ ‵ (flft κ-new q-new) ∷ ‵ (ShrSlice (named 1) κ-new u8 .own new (s-new ∷ [])) ∷ ‵ (flft κ-work q-work) ∷ ‵ (MutSlice (named 2) κ-work Record-row.the-row .own work (s-work ∷ [])) ∷ ‵ (flft κ-plan q-plan) ∷ ‵ (MutSlice (named 3) κ-plan u8 .own plan (s-plan ∷ [])) ∷ Γ) (runs C Λ E· (seq (call #connect·connect xs· d·) rest·) p·)
+          → ((r : Answer) (work′ : List Record) (plan′ : List ℕ) → (Is Answer-row.the-row r (Answer-laws.lowered r ∷ [])) → (length work′ ≡ length (work .now)) → (length plan′ ≡ length (plan .now)) → (record { answer = answerOf r; plan = plan′; work = work′ } ≡ connectOf blank paper k ((old .now)) ((new .now)) ((work .now)) ((plan .now))) → Sq W (‵ (flft κ-old q-old) ∷ ‵ (flft κ-new q-new) ∷ ‵ (flft κ-work q-work) ∷ ‵ (finally Record-row.the-row (work .name) work′) ∷ ‵ (flft κ-plan q-plan) ∷ ‵ (finally u8 (plan .name) plan′) ∷ Γ) (lands C Λ E· d· (Answer-laws.lowered r) rest· p·)) → Sq W (‵ (flft κ-old q-old) ∷ ‵ (ShrSlice (named 0) κ-old u8 .own old (s-old ∷ [])) ∷ ‵ (flft κ-new q-new) ∷ ‵ (ShrSlice (named 1) κ-new u8 .own new (s-new ∷ [])) ∷ ‵ (flft κ-work q-work) ∷ ‵ (MutSlice (named 2) κ-work Record-row.the-row .own work (s-work ∷ [])) ∷ ‵ (flft κ-plan q-plan) ∷ ‵ (MutSlice (named 3) κ-plan u8 .own plan (s-plan ∷ [])) ∷ Γ) (runs C Λ E· (seq (call #connect·connect xs· d·) rest·) p·)
       calls-connect {rest·} fm· known· fits-k operands· k· = cut {W = W} (‵ (flft κ-old q-old) ∷ ‵ (ShrSlice (named 0) κ-old u8 .own old (s-old ∷ [])) ∷ ‵ (flft κ-new q-new) ∷ ‵ (ShrSlice (named 1) κ-new u8 .own new (s-new ∷ [])) ∷ ‵ (flft κ-work q-work) ∷ ‵ (MutSlice (named 2) κ-work Record-row.the-row .own work (s-work ∷ [])) ∷ ‵ (flft κ-plan q-plan) ∷ ‵ (MutSlice (named 3) κ-plan u8 .own plan (s-plan ∷ [])) ∷ []) (raw (connect-contract 𝓤 H A mem run .pre bound) ∷ []) Γ (goes fits-k) $
           calls-at ! fm· (connect-contract 𝓤 H A mem run) known· bound operands· (λ w·. after (λ u·. lands C Λ E· d· u· rest· p·) (λ u·. tt) k· w·)
 
       pub calls-connect-last : FmC 𝓤 H (W .laws) C → Triple 𝓤 (C #connect·connect) (connect-contract 𝓤 H A mem run) → (k < 2 ^ 8) → Opds (Go {0}) W (raw (connect-contract 𝓤 H A mem run .pre bound) ∷ Γ) E· xs· (vint w8 k ∷ s-old ∷ s-new ∷ s-work ∷ s-plan ∷ [])
-          → ((r : Answer) (work′ : List Record) (plan′ : List ℕ) → (Is Answer-row.the-row r (Answer-laws.lowered r ∷ [])) → (length work′ ≡ length (work .now)) → (length plan′ ≡ length (plan .now)) → (record { answer = answerOf r; plan = plan′; work = work′ } ≡ connectOf blank k ((old .now)) ((new .now)) ((work .now)) ((plan .now))) → Sq W (‵ (flft κ-old q-old) ∷ ‵ (flft κ-new q-new) ∷ ‵ (flft κ-work q-work) ∷ ‵ (finally Record-row.the-row (work .name) work′) ∷ ‵ (flft κ-plan q-plan) ∷ ‵ (finally u8 (plan .name) plan′) ∷ Γ) (settles E· d· (Answer-laws.lowered r) p·)) → Sq W (‵ (flft κ-old q-old) ∷ ‵ (ShrSlice (named 0) κ-old u8 .own old (s-old ∷ [])) ∷ ‵ (flft κ-new q-new) ∷ ‵ (ShrSlice (named 1) κ-new u8 .own new (s-new ∷ [])) ∷ ‵ (flft κ-work q-work) ∷ ‵ (MutSlice (named 2) κ-work Record-row.the-row .own work (s-work ∷ [])) ∷ ‵ (flft κ-plan q-plan) ∷ ‵ (MutSlice (named 3) κ-plan u8 .own plan (s-plan ∷ [])) ∷ Γ) (runs C Λ E· (call #connect·connect xs· d·) p·)
+          → ((r : Answer) (work′ : List Record) (plan′ : List ℕ) → (Is Answer-row.the-row r (Answer-laws.lowered r ∷ [])) → (length work′ ≡ length (work .now)) → (length plan′ ≡ length (plan .now)) → (record { answer = answerOf r; plan = plan′; work = work′ } ≡ connectOf blank paper k ((old .now)) ((new .now)) ((work .now)) ((plan .now))) → Sq W (‵ (flft κ-old q-old) ∷ ‵ (flft κ-new q-new) ∷ ‵ (flft κ-work q-work) ∷ ‵ (finally Record-row.the-row (work .name) work′) ∷ ‵ (flft κ-plan q-plan) ∷ ‵ (finally u8 (plan .name) plan′) ∷ Γ) (settles E· d· (Answer-laws.lowered r) p·)) → Sq W (‵ (flft κ-old q-old) ∷ ‵ (ShrSlice (named 0) κ-old u8 .own old (s-old ∷ [])) ∷ ‵ (flft κ-new q-new) ∷ ‵ (ShrSlice (named 1) κ-new u8 .own new (s-new ∷ [])) ∷ ‵ (flft κ-work q-work) ∷ ‵ (MutSlice (named 2) κ-work Record-row.the-row .own work (s-work ∷ [])) ∷ ‵ (flft κ-plan q-plan) ∷ ‵ (MutSlice (named 3) κ-plan u8 .own plan (s-plan ∷ [])) ∷ Γ) (runs C Λ E· (call #connect·connect xs· d·) p·)
       calls-connect-last fm· known· fits-k operands· k· = cut {W = W} (‵ (flft κ-old q-old) ∷ ‵ (ShrSlice (named 0) κ-old u8 .own old (s-old ∷ [])) ∷ ‵ (flft κ-new q-new) ∷ ‵ (ShrSlice (named 1) κ-new u8 .own new (s-new ∷ [])) ∷ ‵ (flft κ-work q-work) ∷ ‵ (MutSlice (named 2) κ-work Record-row.the-row .own work (s-work ∷ [])) ∷ ‵ (flft κ-plan q-plan) ∷ ‵ (MutSlice (named 3) κ-plan u8 .own plan (s-plan ∷ [])) ∷ []) (raw (connect-contract 𝓤 H A mem run .pre bound) ∷ []) Γ (goes fits-k) $
           calls-at-last ! fm· (connect-contract 𝓤 H A mem run) known· bound operands· (λ w·. after (λ u·. settles E· d· u· p·) (λ u·. tt) k· w·)

@@ -7,9 +7,7 @@ use Rattle.rounds.proofs.sift as callee
 use Rattle.rounds.proofs.sift.Symbol.{name as #rounds·sift}
 use Rattle.table.specs.States.{SearchedTable}
 use Rattle.rounds.specs.Work.{SiftedWork}
-use Rattle.model.specs.Test.{test}
-use Rattle.moves.specs.Modes.{modeOf}
-use Rattle.model.specs.Sheet.{contractIn}
+use Rattle.moves.specs.Modes.{testOf}
 use Rattle.moves.proofs.Mode as Mode-row
 use Rattle.moves.proofs.Mode.Laws as Mode-laws
 use Rattle.moves.specs.declared.Mode.{Mode}
@@ -29,20 +27,20 @@ module _ {M : Type 1} (𝓤 : URA M) (H : Heap 𝓤) (A : Atoms 𝓤) (W : Given
       says ! needed $ nothing ! $ owned ! usize (Is usize) (uint-makes 𝓤 H A W w64) count _ (refl, fits-count) $ fjoin ! $ move ! (6 ∷ 0 ∷ []) $ fjoin ! $ move ! (4 ∷ 0 ∷ []) $ fjoin ! $ move ! (2 ∷ 0 ∷ []) $ fjoin ! $ owned ! Mode-row.the-row (Is Mode-row.the-row) (EL.makes Mode-row.the-type Mode-laws.the-plain 𝓤 H A) mode _ is-mode $ fjoin ! $ nothing ! $ move ! (4 ∷ 0 ∷ []) $ join ! $ move ! (3 ∷ 0 ∷ []) $ join ! $ move ! (2 ∷ 0 ∷ []) $ join ! $ done !
 
   module _ {Γ : List (Item 𝓤)} where
-    after : (goal· : Val → Goal 𝓤 H) → ((w· : Val) → Soaks (goal· w·)) → ((r : ℕ) (work′ : List Record) → (r < 2 ^ 16) → (length work′ ≡ length (work .now)) → (SiftedWork (test (modeOf mode) (contractIn ((old .now))) (contractIn ((new .now)))) count r ((work .now)) (work′)) → Sq W (‵ (flft κ-old q-old) ∷ ‵ (flft κ-new q-new) ∷ ‵ (flft κ-work q-work) ∷ ‵ (finally Record-row.the-row (work .name) work′) ∷ Γ) (goal· (vint w16 r))) → (w· : Val) → Sq W (raw (sift-contract 𝓤 H A mem run .post bound w·) ∷ Γ) (goal· w·)
+    after : (goal· : Val → Goal 𝓤 H) → ((w· : Val) → Soaks (goal· w·)) → ((r : ℕ) (work′ : List Record) → (r < 2 ^ 16) → (length work′ ≡ length (work .now)) → (SiftedWork (testOf mode ((old .now)) ((new .now))) count r ((work .now)) (work′)) → Sq W (‵ (flft κ-old q-old) ∷ ‵ (flft κ-new q-new) ∷ ‵ (flft κ-work q-work) ∷ ‵ (finally Record-row.the-row (work .name) work′) ∷ Γ) (goal· (vint w16 r))) → (w· : Val) → Sq W (raw (sift-contract 𝓤 H A mem run .post bound w·) ∷ Γ) (goal· w·)
     after goal· soaks· k· w· =
         use1 W (later (some (λ (r : ℕ). ((‵ (flft κ-old q-old) ⊛ ‵ (flft κ-new q-new) ⊛ ‵ (flft κ-work q-work) ⊛ ‵ ftrue) ⊛ ‵ (u16 .own r (w· ∷ []))) ⊛ raw (ensured 𝓤 H A callee.ended (callee.clauses 𝓤 H A mem run) (κ-old, (κ-new, (κ-work, tt))) (mode, (old, (new, (work, (count, tt))))) tt r)))) (id⊢ 𝓤 _) $ await ! (soaks· w·) $ pick ! (λ r. split ! $ move ! (1 ∷ []) $
-        use1 W (some (λ (ws· : Unit {0} × (Unit {0} × (Unit {0} × (List Record × (Unit {0} × (Unit {0})))))). ‵ (lasts callee.ended (κ-old, (κ-new, (κ-work, tt))) (mode, (old, (new, (work, (count, tt))))) ws·) ⊛ raw (fact 𝓤 (SiftedWork (test (modeOf mode) (contractIn ((old .now))) (contractIn ((new .now)))) count r ((work .now)) ((ws· .1 .1 .1 .0)))))) (id⊢ 𝓤 _) $ pick ! (λ ws·. split ! $ move ! (1 ∷ []) $ heard ! (SiftedWork (test (modeOf mode) (contractIn ((old .now))) (contractIn ((new .now)))) count r ((work .now)) ((ws· .1 .1 .1 .0))) (λ e·.
+        use1 W (some (λ (ws· : Unit {0} × (Unit {0} × (Unit {0} × (List Record × (Unit {0} × (Unit {0})))))). ‵ (lasts callee.ended (κ-old, (κ-new, (κ-work, tt))) (mode, (old, (new, (work, (count, tt))))) ws·) ⊛ raw (fact 𝓤 (SiftedWork (testOf mode ((old .now)) ((new .now))) count r ((work .now)) ((ws· .1 .1 .1 .0)))))) (id⊢ 𝓤 _) $ pick ! (λ ws·. split ! $ move ! (1 ∷ []) $ heard ! (SiftedWork (testOf mode ((old .now)) ((new .now))) count r ((work .now)) ((ws· .1 .1 .1 .0))) (λ e·.
         fsplit ! $ drop ! $ fsplit ! $ drop ! $ fsplit ! $ drop ! $ fsplit ! $ fsplit ! $ move ! (1 ∷ []) $ feqL ! (λ l-work. move ! (1 ∷ []) $ fsplit ! $ drop ! $ drop ! $ move ! (1 ∷ []) $ split ! $ move ! (1 ∷ []) $ peeks ! u16 (Is u16) (shows 𝓤 H A u16) r (w· ∷ []) (λ is·. drop ! $ split ! $ move ! (1 ∷ []) $ split ! $ move ! (1 ∷ []) $ split ! $ move ! (1 ∷ []) $ drop ! $ move ! (2 ∷ 1 ∷ 0 ∷ 3 ∷ []) $
         subst (λ (u· : Val). Sq W (‵ (flft κ-old q-old) ∷ ‵ (flft κ-new q-new) ∷ ‵ (flft κ-work q-work) ∷ ‵ (finally Record-row.the-row (work .name) (ws· .1 .1 .1 .0)) ∷ Γ) (goal· u·)) (sym (ap only (uint-tells w16 r (w· ∷ []) is·))) (k· r (ws· .1 .1 .1 .0) (subst (λ (us : List Val). Is u16 r us) (uint-tells w16 r (w· ∷ []) is·) is· .1) l-work e·))))))
 
     module _ {C : Calls 𝓤 H} {Λ : Loops 𝓤 H} {E· : Env 𝓤 H} {p· : Post 𝓤 H} {d· : Place} {xs· : List Operand} where
       pub calls-sift : {rest· : Body} → FmC 𝓤 H (W .laws) C → Triple 𝓤 (C #rounds·sift) (sift-contract 𝓤 H A mem run) → (Is Mode-row.the-row mode (Mode-laws.lowered mode ∷ [])) → (count < 2 ^ 64) → (SearchedTable ((old .now)) ((new .now)) count ((work .now))) → Opds (Go {0}) W (raw (sift-contract 𝓤 H A mem run .pre bound) ∷ Γ) E· xs· (Mode-laws.lowered mode ∷ s-old ∷ s-new ∷ s-work ∷ vint w64 count ∷ [])
-          → ((r : ℕ) (work′ : List Record) → (r < 2 ^ 16) → (length work′ ≡ length (work .now)) → (SiftedWork (test (modeOf mode) (contractIn ((old .now))) (contractIn ((new .now)))) count r ((work .now)) (work′)) → Sq W (‵ (flft κ-old q-old) ∷ ‵ (flft κ-new q-new) ∷ ‵ (flft κ-work q-work) ∷ ‵ (finally Record-row.the-row (work .name) work′) ∷ Γ) (lands C Λ E· d· (vint w16 r) rest· p·)) → Sq W (‵ (flft κ-old q-old) ∷ ‵ (ShrSlice (named 0) κ-old u8 .own old (s-old ∷ [])) ∷ ‵ (flft κ-new q-new) ∷ ‵ (ShrSlice (named 1) κ-new u8 .own new (s-new ∷ [])) ∷ ‵ (flft κ-work q-work) ∷ ‵ (MutSlice (named 2) κ-work Record-row.the-row .own work (s-work ∷ [])) ∷ Γ) (runs C Λ E· (seq (call #rounds·sift xs· d·) rest·) p·)
+          → ((r : ℕ) (work′ : List Record) → (r < 2 ^ 16) → (length work′ ≡ length (work .now)) → (SiftedWork (testOf mode ((old .now)) ((new .now))) count r ((work .now)) (work′)) → Sq W (‵ (flft κ-old q-old) ∷ ‵ (flft κ-new q-new) ∷ ‵ (flft κ-work q-work) ∷ ‵ (finally Record-row.the-row (work .name) work′) ∷ Γ) (lands C Λ E· d· (vint w16 r) rest· p·)) → Sq W (‵ (flft κ-old q-old) ∷ ‵ (ShrSlice (named 0) κ-old u8 .own old (s-old ∷ [])) ∷ ‵ (flft κ-new q-new) ∷ ‵ (ShrSlice (named 1) κ-new u8 .own new (s-new ∷ [])) ∷ ‵ (flft κ-work q-work) ∷ ‵ (MutSlice (named 2) κ-work Record-row.the-row .own work (s-work ∷ [])) ∷ Γ) (runs C Λ E· (seq (call #rounds·sift xs· d·) rest·) p·)
       calls-sift {rest·} fm· known· is-mode fits-count needed operands· k· = cut {W = W} (‵ (flft κ-old q-old) ∷ ‵ (ShrSlice (named 0) κ-old u8 .own old (s-old ∷ [])) ∷ ‵ (flft κ-new q-new) ∷ ‵ (ShrSlice (named 1) κ-new u8 .own new (s-new ∷ [])) ∷ ‵ (flft κ-work q-work) ∷ ‵ (MutSlice (named 2) κ-work Record-row.the-row .own work (s-work ∷ [])) ∷ []) (raw (sift-contract 𝓤 H A mem run .pre bound) ∷ []) Γ (goes is-mode fits-count needed) $
           calls-at ! fm· (sift-contract 𝓤 H A mem run) known· bound operands· (λ w·. after (λ u·. lands C Λ E· d· u· rest· p·) (λ u·. tt) k· w·)
 
       pub calls-sift-last : FmC 𝓤 H (W .laws) C → Triple 𝓤 (C #rounds·sift) (sift-contract 𝓤 H A mem run) → (Is Mode-row.the-row mode (Mode-laws.lowered mode ∷ [])) → (count < 2 ^ 64) → (SearchedTable ((old .now)) ((new .now)) count ((work .now))) → Opds (Go {0}) W (raw (sift-contract 𝓤 H A mem run .pre bound) ∷ Γ) E· xs· (Mode-laws.lowered mode ∷ s-old ∷ s-new ∷ s-work ∷ vint w64 count ∷ [])
-          → ((r : ℕ) (work′ : List Record) → (r < 2 ^ 16) → (length work′ ≡ length (work .now)) → (SiftedWork (test (modeOf mode) (contractIn ((old .now))) (contractIn ((new .now)))) count r ((work .now)) (work′)) → Sq W (‵ (flft κ-old q-old) ∷ ‵ (flft κ-new q-new) ∷ ‵ (flft κ-work q-work) ∷ ‵ (finally Record-row.the-row (work .name) work′) ∷ Γ) (settles E· d· (vint w16 r) p·)) → Sq W (‵ (flft κ-old q-old) ∷ ‵ (ShrSlice (named 0) κ-old u8 .own old (s-old ∷ [])) ∷ ‵ (flft κ-new q-new) ∷ ‵ (ShrSlice (named 1) κ-new u8 .own new (s-new ∷ [])) ∷ ‵ (flft κ-work q-work) ∷ ‵ (MutSlice (named 2) κ-work Record-row.the-row .own work (s-work ∷ [])) ∷ Γ) (runs C Λ E· (call #rounds·sift xs· d·) p·)
+          → ((r : ℕ) (work′ : List Record) → (r < 2 ^ 16) → (length work′ ≡ length (work .now)) → (SiftedWork (testOf mode ((old .now)) ((new .now))) count r ((work .now)) (work′)) → Sq W (‵ (flft κ-old q-old) ∷ ‵ (flft κ-new q-new) ∷ ‵ (flft κ-work q-work) ∷ ‵ (finally Record-row.the-row (work .name) work′) ∷ Γ) (settles E· d· (vint w16 r) p·)) → Sq W (‵ (flft κ-old q-old) ∷ ‵ (ShrSlice (named 0) κ-old u8 .own old (s-old ∷ [])) ∷ ‵ (flft κ-new q-new) ∷ ‵ (ShrSlice (named 1) κ-new u8 .own new (s-new ∷ [])) ∷ ‵ (flft κ-work q-work) ∷ ‵ (MutSlice (named 2) κ-work Record-row.the-row .own work (s-work ∷ [])) ∷ Γ) (runs C Λ E· (call #rounds·sift xs· d·) p·)
       calls-sift-last fm· known· is-mode fits-count needed operands· k· = cut {W = W} (‵ (flft κ-old q-old) ∷ ‵ (ShrSlice (named 0) κ-old u8 .own old (s-old ∷ [])) ∷ ‵ (flft κ-new q-new) ∷ ‵ (ShrSlice (named 1) κ-new u8 .own new (s-new ∷ [])) ∷ ‵ (flft κ-work q-work) ∷ ‵ (MutSlice (named 2) κ-work Record-row.the-row .own work (s-work ∷ [])) ∷ []) (raw (sift-contract 𝓤 H A mem run .pre bound) ∷ []) Γ (goes is-mode fits-count needed) $
           calls-at-last ! fm· (sift-contract 𝓤 H A mem run) known· bound operands· (λ w·. after (λ u·. settles E· d· u· p·) (λ u·. tt) k· w·)
