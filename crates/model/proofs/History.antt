@@ -1,5 +1,5 @@
--- One move more: the history has its code last, and the buffer is what the move makes of the buffer before. An enabled move leads where it
--- says, and the buffer of the situation that moves lead to is the buffer that they leave.
+-- One move more: the history has its code last, and the buffer and the situation are what the move makes of those before. An enabled move
+-- leads where it says, and the buffer of the situation that moves lead to is the buffer that they leave.
 -- Assumes nothing.
 use mathlib.Core.Path.{_≡_, refl, sym, ap, _∙_}
 use mathlib.Core.List.{List, [], _∷_, _++_}
@@ -44,6 +44,12 @@ module _ (limits : List ℕ) (old new : Contract) where
   situation-made s t code made e =
       let w = enabled limits old new s t (kindOf code) e in
       rw (w .counts, w .old-goes, w .new-goes) refl
+
+  -- one move more leads on from the situation before
+  pub situation-move : (made : List ℕ) (s t : Situation) (code : ℕ) → situationFrom limits old new s made ≡ some t
+      → situationFrom limits old new s (made ++ code ∷ []) ≡ madeBy limits old new t (kindOf code)
+  unfolding situationFrom
+  situation-move made s t code e = through-more (λ s code. madeBy limits old new s (kindOf code)) made s t code e
 
   -- the buffer of the situation that moves lead to is the buffer that they leave
   pub situation-buffer : (made : List ℕ) (s t : Situation) → situationFrom limits old new s made ≡ some t

@@ -112,7 +112,7 @@ waits-intro b w =
     any-intro (λ i. ltb 0 (getD b i 0)) (mem-upto 7 0 (w .0) (omega arith) (omega (arith, w .1))) (lt→ltb 0 (getD b (w .0) 0) (w .2))
 
 module _ (mode : Mode) (p : State) (b : List ℕ) where
-  asked-elim : T (asked mode p b) → T (isSettled mode) × Rests p × Waits b
+  pub asked-elim : T (asked mode p b) → T (isSettled mode) × Rests p × Waits b
   unfolding asked
   asked-elim t =
       let w = and-both (isSettled mode) (rests p && waits b) t in

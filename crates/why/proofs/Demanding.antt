@@ -1,33 +1,36 @@
--- The most demanding client complies: each of its ready sets has the success mark or meets every ready set of the contract, and it goes on
--- together with the contract. If each ready set of the contract has an action of some kind, one of the client's has partners of such only.
+-- The most demanding client complies, in either mode: each of its ready sets has the success mark or meets every ready set of the contract,
+-- and it goes on together with the contract. If each ready set of the contract has an action of some kind, one of the client's has partners of
+-- such only.
 -- Assumes nothing.
 use mathlib.Core.Path.{_≡_, refl, sym, ap, subst, subst⁻¹, _∙_}
-use mathlib.Core.Bool.{not}
+use mathlib.Core.Bool.{_&&_}
 use mathlib.Core.Logic.{⊎-elim}
-use mathlib.Core.List.{List, [], _∷_, map, List·Memᴰ, List·Memᴰ·head, List·Memᴰ·tail, List·Memᴰ·not-nil, List·Memᴰ·eq-of-singleton, Memᴰ·map, Memᴰ·of-map}
+use mathlib.Core.List.{List, [], _∷_, map, List·Memᴰ, List·Memᴰ·head, List·Memᴰ·tail, List·Memᴰ·not-nil, List·Memᴰ·eq-of-singleton, Memᴰ·map}
+use mathlib.Core.List.{Memᴰ·of-map}
 use Prim.Native.Nat.{ℕ, zero, suc, _^_, _<_}
 use native.Mathlib.Omega.{arith}
 use lib.ListN.{length, getD}
-use lib.Dec.{T, T-not}
+use lib.Dec.{T}
 use lib.Bits.{bitOr}
 use Rattle.model.specs.Lists.{any, keep}
 use Rattle.model.specs.Contract.{Contract, State, actions, partner, has, nowhere, state, offers, offersIn, offeredBelow, after}
+use Rattle.model.specs.Test.{Mode, isSettled, silent, rests}
 use Rattle.model.specs.Client.{Meet, met-first, met-on, Apart, Complies}
-use Rattle.model.proofs.Lists.{dec-T, or-right, cond-yes, cond-no, any-intro, all-elim, keep-intro, keep-elim, combine-intro, combine-elim}
+use Rattle.model.proofs.Lists.{dec-T, or-right, cond-yes, cond-no, any-intro, keep-intro, keep-elim, combine-intro, combine-elim}
 use Rattle.model.proofs.Actions.{action, action-below, partner-action, partner-partner, kept-result}
 use Rattle.model.proofs.Bits.{has-or-left, has-or-right, has-or-cases}
 use Rattle.model.proofs.Masks.{has-none, has-power, power-has}
+use Rattle.model.proofs.Test.{silent-elim}
 use Rattle.model.proofs.Sheet.{offers-within}
-use Rattle.why.specs.Demanding.{silent, demandsOf, demandsOfAll, demandingState, demanding}
+use Rattle.why.specs.Demanding.{demandsOf, demandsOfAll, demandsAt, demandingState, demanding}
 
 -- ---- its ready sets
 
 -- what is asked of a ready set with an action
 demands-yes : (r j : ℕ) → j < 14 → T (has r j) → demandsOf r ≡ map (λ j. 2 ^ partner j) (keep (has r) actions)
-unfolding demandsOf silent
+unfolding demandsOf
 demands-yes r j h t =
-    cond-no (silent r) (2 ^ 14 ∷ []) (map (λ j. 2 ^ partner j) (keep (has r) actions))
-    (λ s. T-not (has r j) (all-elim (λ j. not (has r j)) (action j h) s) t)
+    cond-no (silent r) (2 ^ 14 ∷ []) (map (λ j. 2 ^ partner j) (keep (has r) actions)) (λ s. silent-elim r s j h t)
 
 -- a demand of a ready set has the success mark or the partner of an action in it
 demand-meets : (r d : ℕ) → List·Memᴰ d (demandsOf r) → Apart d r → T (has d 14)
@@ -61,6 +64,25 @@ demands-meet R (List·Memᴰ·tail {x = r} {xs = ready} q) m apart =
     λ j t. subst (λ (x : ℕ). T (has x j)) (w .4) (has-or-right (w .0) (w .1) j t) in
     up 14 (demands-meet (w .1) q (w .3) (λ j h s d. apart j h s (up (partner j) d)))
 
+-- the settled client is content where the contract's state rests
+pub content-ready : (mode : Mode) (p : State) → T (isSettled mode && rests p) → demandsAt mode p ≡ 2 ^ 14 ∷ []
+unfolding demandsAt
+content-ready mode p t = cond-yes (isSettled mode && rests p) (2 ^ 14 ∷ []) (demandsOfAll (p .ready)) t
+
+pub asking-ready : (mode : Mode) (p : State) → (T (isSettled mode && rests p) → ⊥) → demandsAt mode p ≡ demandsOfAll (p .ready)
+unfolding demandsAt
+asking-ready mode p f = cond-no (isSettled mode && rests p) (2 ^ 14 ∷ []) (demandsOfAll (p .ready)) f
+
+-- the same in a mode
+ready-meet : (mode : Mode) (p : State) {S : ℕ} (R : ℕ) → List·Memᴰ S (p .ready) → List·Memᴰ R (demandsAt mode p) → Apart R S → T (has R 14)
+ready-meet mode p R mS mR apart =
+    ⊎-elim
+    (λ t.
+    let e = List·Memᴰ·eq-of-singleton (subst (List·Memᴰ R) (content-ready mode p t) mR) in
+    subst⁻¹ (λ (x : ℕ). T (has x 14)) e (has-power 14))
+    (λ t. demands-meet R mS (subst (List·Memᴰ R) (asking-ready mode p t) mR) apart)
+    (dec-T (isSettled mode && rests p))
+
 module _ (bad : ℕ → Type 0) where
   -- a bad action of the ready set
   abbrev pub Bad : ℕ → Type 0
@@ -92,39 +114,26 @@ module _ (bad : ℕ → Type 0) where
 
 -- ---- its states
 
-pub demanding-state : (c : Contract) (q : ℕ) → q < length (c .states) → state (demanding c) q ≡ demandingState (state c q)
-unfolding state demanding
-demanding-state c q h = go (c .states) q h
-  where
-    go : (l : List State) (q : ℕ) → q < length l → getD (map demandingState l) q nowhere ≡ demandingState (getD l q nowhere)
-    go [] q h = absurd (omega arith)
-    go (s ∷ l) zero h = refl
-    go (s ∷ l) (suc q) h = go l q (omega arith)
+module _ (mode : Mode) where
+  pub demanding-state : (c : Contract) (q : ℕ) → q < length (c .states) → state (demanding mode c) q ≡ demandingState mode (state c q)
+  unfolding state demanding
+  demanding-state c q h = go (c .states) q h
+    where
+      go : (l : List State) (q : ℕ) → q < length l → getD (map (demandingState mode) l) q nowhere ≡ demandingState mode (getD l q nowhere)
+      go [] q h = absurd (omega arith)
+      go (s ∷ l) zero h = refl
+      go (s ∷ l) (suc q) h = go l q (omega arith)
 
--- it goes on as the contract does
-pub demanding-after : (p : State) (j : ℕ) → j < 14 → T (offers (demandingState p) (partner j))
-    → after (demandingState p) (partner j) ≡ after p j
-unfolding after offeredBelow demandingState offers actions
-demanding-after p j h o =
-    kept-result (λ i. after p (partner i)) (offersIn (demandsOfAll (p .ready))) (partner j) o 14 0
-    (omega arith) (omega (arith, partner-action j h))
-    ∙ ap (after p) (partner-partner j h)
+  -- it goes on as the contract does
+  pub demanding-after : (p : State) (j : ℕ) → j < 14 → T (offers (demandingState mode p) (partner j))
+      → after (demandingState mode p) (partner j) ≡ after p j
+  unfolding after offeredBelow demandingState offers actions
+  demanding-after p j h o =
+      kept-result (λ i. after p (partner i)) (offersIn (demandsAt mode p)) (partner j) o 14 0
+      (omega arith) (omega (arith, partner-action j h))
+      ∙ ap (after p) (partner-partner j h)
 
 -- ---- it complies
-
--- at a state of the contract
-same-state : (c : Contract) (p q : ℕ) → p ≡ q → q < length (c .states) → state (demanding c) p ≡ demandingState (state c q)
-same-state c p q e h = ap (state (demanding c)) e ∙ demanding-state c q h
-
--- the pairs met are those of equal states
-demanding-met : (c : Contract) {p q : ℕ} → Meet (demanding c) c p q → p ≡ q
-demanding-met c (met-first e f) = e ∙ sym f
-demanding-met c (met-on {p = p} {q = q} j h m a b e f) =
-    let d = same-state c p q (demanding-met c m) (offers-within c q j b) in
-    e
-    ∙ ap (λ (s : State). after s (partner j)) d
-    ∙ demanding-after (state c q) j h (subst (λ (s : State). T (offers s (partner j))) d a)
-    ∙ sym f
 
 -- a state with a ready set is one of the contract's
 ready-within : (c : Contract) (q S : ℕ) → List·Memᴰ S (state c q .ready) → q < length (c .states)
@@ -136,8 +145,23 @@ ready-within c q S m = go (c .states) q m
     go (s ∷ l) zero m = omega arith
     go (s ∷ l) (suc q) m = omega (arith, go l q m)
 
-pub demanding-complies : (c : Contract) → Complies (demanding c) c
-unfolding demandingState
-demanding-complies c p q m R S mR mS apart =
-    let d = same-state c p q (demanding-met c m) (ready-within c q S mS) in
-    demands-meet R mS (subst (λ (s : State). List·Memᴰ R (s .ready)) d mR) apart
+module _ (mode : Mode) (c : Contract) where
+  -- at a state of the contract
+  same-state : (p q : ℕ) → p ≡ q → q < length (c .states) → state (demanding mode c) p ≡ demandingState mode (state c q)
+  same-state p q e h = ap (state (demanding mode c)) e ∙ demanding-state mode c q h
+
+  -- the pairs met are those of equal states
+  demanding-met : {p q : ℕ} → Meet (demanding mode c) c p q → p ≡ q
+  demanding-met (met-first e f) = e ∙ sym f
+  demanding-met (met-on {p = p} {q = q} j h m a b e f) =
+      let d = same-state p q (demanding-met m) (offers-within c q j b) in
+      e
+      ∙ ap (λ (s : State). after s (partner j)) d
+      ∙ demanding-after mode (state c q) j h (subst (λ (s : State). T (offers s (partner j))) d a)
+      ∙ sym f
+
+  pub demanding-complies : Complies (demanding mode c) c
+  unfolding demandingState
+  demanding-complies p q m R S mR mS apart =
+      let d = same-state p q (demanding-met m) (ready-within c q S mS) in
+      ready-meet mode (state c q) R mS (subst (λ (s : State). List·Memᴰ R (s .ready)) d mR) apart

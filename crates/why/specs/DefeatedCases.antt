@@ -1,9 +1,11 @@
--- The cases of document 01's table that answer 12, each with the client that defeats every adapter as a client sheet.
+-- The cases of document 01's table that answer 12, in the paper's mode and in the settled one of document 02, request 5/13, each with the
+-- client that defeats every adapter as a client sheet.
 -- Assumes nothing.
 use mathlib.Core.List.{List, [], _∷_}
 use Prim.Native.Nat.{ℕ}
 use Rattle.model.specs.Cases.{take-a-1, end-1, send-a-1, take-a-2, internal-2, take-a-send-c-4, take-a-send-d-4, take-c-take-a-3, take-a-take-c-3}
 use Rattle.model.specs.RunCases.{send-c-send-a-3}
+use Rattle.model.specs.Test.{Mode, paper, settled}
 
 -- ---- the clients that model has not, each named for its term and its n; a client's end is its success mark
 
@@ -27,22 +29,25 @@ client-send-a-take-c-4 =
 
 -- ---- the list
 
--- a pair, its k, and the client's bytes
+-- a mode, a pair, its k, and the client's bytes
 pub record DefeatedCase : Type 0 where
+  pub mode : Mode
   pub old : List ℕ
   pub new : List ℕ
   pub k : ℕ
   pub client : List ℕ
 
-abbrev case : List ℕ → List ℕ → ℕ → List ℕ → DefeatedCase
-case old new k client = record { old = old; new = new; k = k; client = client }
+abbrev case : Mode → List ℕ → List ℕ → ℕ → List ℕ → DefeatedCase
+case mode old new k client = record { mode = mode; old = old; new = new; k = k; client = client }
 
--- M3, M5, M7, M10, M12
+-- M3, M5, M7, M10, M12; then those that only the settled mode refuses, M4 and M8
 unfoldable pub defeatedCases : List DefeatedCase
 defeatedCases =
-    case take-a-1 end-1 0 client-send-a-1
-    ∷ case send-a-1 end-1 3 client-take-a-1
-    ∷ case take-a-2 internal-2 0 client-send-a-2
-    ∷ case take-a-send-c-4 take-a-send-d-4 0 client-send-a-take-c-4
-    ∷ case take-c-take-a-3 take-a-take-c-3 0 send-c-send-a-3
+    case paper take-a-1 end-1 0 client-send-a-1
+    ∷ case paper send-a-1 end-1 3 client-take-a-1
+    ∷ case paper take-a-2 internal-2 0 client-send-a-2
+    ∷ case paper take-a-send-c-4 take-a-send-d-4 0 client-send-a-take-c-4
+    ∷ case paper take-c-take-a-3 take-a-take-c-3 0 send-c-send-a-3
+    ∷ case settled take-a-1 end-1 1 client-send-a-1
+    ∷ case settled take-a-2 internal-2 1 client-send-a-2
     ∷ []

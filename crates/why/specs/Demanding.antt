@@ -1,15 +1,13 @@
--- The most demanding client that a contract satisfies: σ⊤ in the proof of proposition 3.6 of Padovani 2010.
+-- The most demanding client that a contract satisfies: σ⊤ in the proof of proposition 3.6 of Padovani 2010. In the settled mode of document
+-- 02, request 5/13, the most demanding one is content wherever the contract may be done.
 -- Assumes nothing.
-use mathlib.Core.Bool.{Bool, not, cond}
+use mathlib.Core.Bool.{cond, _&&_}
 use mathlib.Core.List.{List, [], _∷_, map}
 use Prim.Native.Nat.{ℕ, _^_}
 use lib.Bits.{bitOr}
-use Rattle.model.specs.Lists.{all, keep, combine}
+use Rattle.model.specs.Lists.{keep, combine}
 use Rattle.model.specs.Contract.{Contract, State, actions, partner, has, offersIn, after}
-
--- the ready set has no action
-unfoldable pub silent : ℕ → Bool
-silent r = all (λ j. not (has r j)) actions
+use Rattle.model.specs.Test.{Mode, isSettled, silent, rests}
 
 -- what the client may ask of a ready set: if it is empty the success mark, "e if R = ∅"; else the partner of one of its actions, as the
 -- client pleases, "⊕ ᾱ ... otherwise"
@@ -21,14 +19,19 @@ unfoldable pub demandsOfAll : List ℕ → List ℕ
 demandsOfAll [] = 0 ∷ []
 demandsOfAll (r ∷ ready) = combine bitOr (demandsOf r) (demandsOfAll ready)
 
+-- The same in a mode. Where the contract's state has an empty ready set the settled client has the success mark alone: it asks for nothing
+-- more. So what still waits for the service must be delivered without its help.
+unfoldable pub demandsAt : Mode → State → List ℕ
+demandsAt mode p = cond (isSettled mode && rests p) (2 ^ 14 ∷ []) (demandsOfAll (p .ready))
+
 -- by a partner it goes on as the contract goes on by the action, "ᾱ.σ(α)⊤"
-unfoldable pub demandingState : State → State
-demandingState p =
+unfoldable pub demandingState : Mode → State → State
+demandingState mode p =
     record {
-      ready = demandsOfAll (p .ready);
-      successors = map (λ i. after p (partner i)) (keep (offersIn (demandsOfAll (p .ready))) actions);
+      ready = demandsAt mode p;
+      successors = map (λ i. after p (partner i)) (keep (offersIn (demandsAt mode p)) actions);
     }
 
 -- the client: a state for each state of the contract
-unfoldable pub demanding : Contract → Contract
-demanding c = record { n = c .n; states = map demandingState (c .states) }
+unfoldable pub demanding : Mode → Contract → Contract
+demanding mode c = record { n = c .n; states = map (demandingState mode) (c .states) }
