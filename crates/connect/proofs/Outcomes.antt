@@ -9,7 +9,6 @@ use lib.ListN.{length, drop}
 use borrow.Author.Tests.{le-leb, lt-leb, ne-eqb, le-ltb}
 use Rattle.model.specs.Situation.{Situation}
 use Rattle.model.specs.Test as model-test
-use Rattle.model.specs.Test.{paper}
 use Rattle.moves.specs.declared.Mode.{Mode}
 use Rattle.moves.specs.Modes.{modeOf, testOf}
 use Rattle.model.specs.Contract.{Contract}
@@ -146,8 +145,10 @@ module _ (mode : Mode) (k : ℕ) (old new : List ℕ) (work : List Record) (plan
       (λ i. record { answer = w .answer i; plan = w .written i; work = zero i })
       ∙ ap whole (sym (c .good e mode (length work) (length plan))) ∙ is-whole
 
--- ---- without a mode
+-- ---- by another name of the mode
 
-pub connect-unnamed : (k : ℕ) (old new : List ℕ) (work : List Record) (plan : List ℕ) (mode : Mode) → modeOf mode ≡ paper
-    → {whole : Connected Record} → whole ≡ connectOf blank (modeOf mode) k old new work plan → whole ≡ connectOf blank paper k old new work plan
-connect-unnamed k old new work plan mode e {whole} is = subst (λ (mode : model-test.Mode). whole ≡ connectOf blank mode k old new work plan) e is
+pub connect-named : (k : ℕ) (old new : List ℕ) (work : List Record) (plan : List ℕ) (mode : Mode) {named : model-test.Mode}
+    → modeOf mode ≡ named → {whole : Connected Record} → whole ≡ connectOf blank (modeOf mode) k old new work plan
+    → whole ≡ connectOf blank named k old new work plan
+connect-named k old new work plan mode e {whole} is =
+    subst (λ (named : model-test.Mode). whole ≡ connectOf blank named k old new work plan) e is

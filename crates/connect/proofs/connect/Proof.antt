@@ -24,7 +24,7 @@ use Rattle.connect.proofs.connect_mode.Met as connect-mode-thm
 use Rattle.connect.specs.Answers.{answerOf}
 use Rattle.model.specs.Connect.{connectOf}
 use Rattle.table.specs.Records.{blank}
-use Rattle.connect.proofs.Outcomes.{connect-unnamed}
+use Rattle.connect.proofs.Outcomes.{connect-named}
 use Rattle.table.proofs.Record as Record-row
 use Rattle.table.specs.declared.Record.{Record}
 use Rattle.connect.proofs.Answer as Answer-row
@@ -110,7 +110,7 @@ module _ {M : Type 1} (𝓤 : URA M) (H : Heap 𝓤) (A : Atoms 𝓤) (W : Given
           calls-connect-mode 𝓤 H A W mem run mode k κ-old q-old (lentAt b-old o-old γ-old old) s-old κ-new q-new (lentAt b-new o-new γ-new new) s-new (ν-3-work ∷ []) fullShare (lentAt b-work o-work δ-3-work work) s-work (ν-3-plan ∷ []) fullShare (lentAt b-plan o-plan δ-3-plan plan) s-plan (fmOf 𝓤 H (W .laws) 𝓣) known-connect-mode is-mode fits-k
           (and-then ! (load ! (from ! (stop !)) (look ! 13 refl)) (and-then ! (load ! (from ! (stop !)) (look ! 23 refl)) (and-then ! (load ! (from ! (stop !)) (look ! 21 refl)) (and-then ! (load ! (from ! (stop !)) (look ! 19 refl)) (and-then ! (load ! (from ! (stop !)) (look ! 9 refl)) (and-then ! (load ! (from ! (stop !)) (look ! 5 refl)) (no-more !))))))) (λ answer cleared written is-answer same-cleared same-written connected.
           move ! (2 ∷ 7 ∷ 3 ∷ []) $ regain ! tt Record-row.the-row (named 2) κ-work q-work γ-work b-work o-work (length work) work refl ν-3-work δ-3-work cleared room-work same-cleared (move ! (4 ∷ 6 ∷ 5 ∷ []) $ regain ! tt u8 (named 3) κ-plan q-plan γ-plan b-plan o-plan (length plan) plan refl ν-3-plan δ-3-plan written room-plan same-written (move ! (7 ∷ 4 ∷ 6 ∷ 5 ∷ 2 ∷ 3 ∷ 0 ∷ 1 ∷ []) $ land ! (from ! (stop !)) (init ! 28 refl (LL.lawful Answer-row.the-type Answer-laws.the-laws 𝓤 H A W .typed answer _ is-answer .0)) $
-          returns-within ! Ends refl (look ! 28 refl) $ released ! (‵ (ShrSlice (named 0) κ-old u8 .own (lentAt b-old o-old γ-old old) (s-old ∷ [])) ∷ ‵ (flft κ-old q-old) ∷ ‵ (ShrSlice (named 1) κ-new u8 .own (lentAt b-new o-new γ-new new) (s-new ∷ [])) ∷ ‵ (flft κ-new q-new) ∷ ‵ (MutSlice (named 2) κ-work Record-row.the-row .own (lentAt b-work o-work γ-work cleared) (s-work ∷ [])) ∷ ‵ (flft κ-work q-work) ∷ ‵ (MutSlice (named 3) κ-plan u8 .own (lentAt b-plan o-plan γ-plan written) (s-plan ∷ [])) ∷ ‵ (flft κ-plan q-plan) ∷ []) (valued Answer-laws.mir l0 (Answer-laws.lowered answer) ∷ valued (tyInt w8) l1 (vint w8 k) ∷ valued τ0 l2 (s-old) ∷ valued τ1 l3 (s-new) ∷ valued τ2 l4 (s-work) ∷ valued τ3 l5 (s-plan) ∷ valued Mode-laws.mir l6 (Mode-laws.lowered mode) ∷ valued τ4 l7 (vptr b-work o-work) ∷ valued τ5 l8 (s-work) ∷ valued τ6 l9 (vptr b-plan o-plan) ∷ valued τ7 l10 (s-plan) ∷ []) $ by ! (exits answer cleared written is-answer (same-cleared ∙ refl) (same-written ∙ refl) (connect-unnamed k old new work plan mode mode-is connected))))))))))
+          returns-within ! Ends refl (look ! 28 refl) $ released ! (‵ (ShrSlice (named 0) κ-old u8 .own (lentAt b-old o-old γ-old old) (s-old ∷ [])) ∷ ‵ (flft κ-old q-old) ∷ ‵ (ShrSlice (named 1) κ-new u8 .own (lentAt b-new o-new γ-new new) (s-new ∷ [])) ∷ ‵ (flft κ-new q-new) ∷ ‵ (MutSlice (named 2) κ-work Record-row.the-row .own (lentAt b-work o-work γ-work cleared) (s-work ∷ [])) ∷ ‵ (flft κ-work q-work) ∷ ‵ (MutSlice (named 3) κ-plan u8 .own (lentAt b-plan o-plan γ-plan written) (s-plan ∷ [])) ∷ ‵ (flft κ-plan q-plan) ∷ []) (valued Answer-laws.mir l0 (Answer-laws.lowered answer) ∷ valued (tyInt w8) l1 (vint w8 k) ∷ valued τ0 l2 (s-old) ∷ valued τ1 l3 (s-new) ∷ valued τ2 l4 (s-work) ∷ valued τ3 l5 (s-plan) ∷ valued Mode-laws.mir l6 (Mode-laws.lowered mode) ∷ valued τ4 l7 (vptr b-work o-work) ∷ valued τ5 l8 (s-work) ∷ valued τ6 l9 (vptr b-plan o-plan) ∷ valued τ7 l10 (s-plan) ∷ []) $ by ! (exits answer cleared written is-answer (same-cleared ∙ refl) (same-written ∙ refl) (connect-named k old new work plan mode mode-is connected))))))))))
 
     walk : ent 𝓤 (onEntry 𝓤 H A this.signature (κ-old, (κ-new, (κ-work, (κ-plan, tt)))) (q-old, (q-new, (q-work, (q-plan, tt)))) args machine) (WpFn 𝓤 H (𝓣 .C) (𝓣 .Λ) this-code.function (vint w8 k ∷ s-old ∷ s-new ∷ s-work ∷ s-plan ∷ []) Ends)
     walk =
