@@ -1,7 +1,7 @@
 //! Document 01's connecting, stepping and client check, and from document 02 the conversion of choosing sheets (request
-//! 1/13) and the check of edited plans (3/13), written from the documents and for speed: a third implementation, beside
-//! the crates and the reference program. It shares nothing with them. The benchmark compares the crates with it, then
-//! measures them against it.
+//! 1/13), the check of edited plans (3/13) and the settled mode of both (5/13), written from the documents and for speed:
+//! a third implementation, beside the crates and the reference program. It shares nothing with them. The benchmark
+//! compares the crates with it, then measures them against it.
 #![forbid(unsafe_code)]
 
 mod choosing;
@@ -30,6 +30,24 @@ pub const MOST_SITUATIONS: usize = 4096;
 
 /// The length of the longest plan: 4,096 rows of 42 moves.
 pub const LONGEST_PLAN: usize = MOST_SITUATIONS * (1 + 42 * 3) + 4 * MOST_SITUATIONS + 8;
+
+/// Which test a situation has to pass: document 01's, which is the paper's, or that with its second part (document 02,
+/// request 5/13).
+#[derive(Clone, Copy, Debug, PartialEq, Eq)]
+pub enum Mode {
+    Paper,
+    Settled,
+}
+
+impl Mode {
+    /// The mode that a byte names: 0 the paper's, any other the settled one.
+    pub fn named(byte: u8) -> Mode {
+        match byte {
+            0 => Mode::Paper,
+            _ => Mode::Settled,
+        }
+    }
+}
 
 /// What connecting answers: 0 or the refusal's number, the sheet and the state that it carries, the counts, and
 /// the plan's length. The check of a plan answers no counts and no length.

@@ -36,6 +36,12 @@ impl State {
         &self.ready[..self.sets as usize & 15]
     }
 
+    /// Whether some ready set is empty. Masks ascend, so that is the first.
+    #[inline]
+    pub fn may_end(&self) -> bool {
+        self.ready[0] == 0
+    }
+
     /// Whether some ready set lies within these actions. All eight are compared, at once.
     #[inline]
     pub fn some_within(&self, actions: u16) -> bool {

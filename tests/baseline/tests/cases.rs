@@ -1,36 +1,18 @@
-//! M1 to M13, M1's bytes, and the edges that document 01 names; and those of choosing sheets and of edited plans.
+//! M1 to M13 in both modes, M1's bytes, and the edges that document 01 names; and those of choosing sheets and of edited
+//! plans.
 
-use baseline::{complies, convert, step, Answer, Checker, Fault, Workspace, LONGEST_PLAN};
+mod made;
 
-const A: u16 = 1 << 0;
-const B: u16 = 1 << 1;
+use baseline::{complies, convert, step, Answer, Fault, Mode, LONGEST_PLAN};
+use made::{checked_in, connect_in, plan, sheet, State, A, B, END};
+
 const C: u16 = 1 << 2;
 const SEND_A: u16 = A << 7;
 const SEND_C: u16 = C << 7;
 const SEND_D: u16 = 1 << 10;
 
-/// A state: ready sets, successors.
-type State<'a> = (&'a [u16], &'a [u8]);
-
-const END: State = (&[0], &[]);
-
-fn sheet(n: u8, role: u8, states: &[State]) -> Vec<u8> {
-    let (mut rows, mut index) = (Vec::new(), Vec::new());
-    for (ready, successors) in states {
-        index.extend((rows.len() as u16).to_le_bytes());
-        rows.push(ready.len() as u8);
-        rows.extend(ready.iter().flat_map(|mask| mask.to_le_bytes()));
-        rows.extend(*successors);
-    }
-    let offset = (rows.len() as u16).to_le_bytes();
-    rows.extend(index);
-    rows.extend(offset);
-    rows.extend([states.len() as u8, n, role, 0xC5]);
-    rows
-}
-
 fn connect(k: u8, old: &[u8], new: &[u8], records: usize, plan: &mut [u8]) -> Answer {
-    Workspace::new(records).connect(k, old, new, records, plan)
+    connect_in(Mode::Paper, k, old, new, records, plan)
 }
 
 struct Case<'a> {
@@ -60,16 +42,38 @@ const CASES: [Case; 13] = [
     Case { name: "M13", n: 3, old: &[(&[C], &[1]), (&[A], &[2]), END], new: &[(&[A], &[1]), (&[C], &[2]), END], k: 1, number: 0, counts: (5, 5, 0) },
 ];
 
+/// A number, and the counts with it.
+type Figures = (u8, (u16, u16, u16));
+
+/// The figures of a case in a mode, and its plan.
+fn figures(mode: Mode, case: &Case) -> (Figures, Vec<u8>) {
+    let (old, new) = (sheet(case.n, 0, case.old), sheet(case.n, 0, case.new));
+    let mut plan = vec![0xEE; LONGEST_PLAN];
+    let answer = connect_in(mode, case.k, &old, &new, 1024, &mut plan);
+    assert_eq!(answer.length == 0, answer.number != 0, "{}", case.name);
+    assert!(plan[answer.length as usize..].iter().all(|byte| *byte == 0xEE), "{}", case.name);
+    plan.truncate(answer.length as usize);
+    ((answer.number, (answer.situations, answer.states, answer.rounds)), plan)
+}
+
 #[test]
 fn cases_hold() {
     for case in &CASES {
-        let (old, new) = (sheet(case.n, 0, case.old), sheet(case.n, 0, case.new));
-        let mut plan = vec![0xEE; LONGEST_PLAN];
-        let answer = connect(case.k, &old, &new, 1024, &mut plan);
-        assert_eq!(answer.number, case.number, "{}", case.name);
-        assert_eq!((answer.situations, answer.states, answer.rounds), case.counts, "{}", case.name);
-        assert_eq!(answer.length == 0, case.number != 0, "{}", case.name);
-        assert!(plan[answer.length as usize..].iter().all(|byte| *byte == 0xEE), "{}", case.name);
+        assert_eq!(figures(Mode::Paper, case).0, (case.number, case.counts), "{}", case.name);
+    }
+}
+
+/// M4 and M8 as request 5/13 says; in the others no message waits for the service where the old state may end, or the new
+/// state takes it, so the plans are the same too.
+#[test]
+fn cases_hold_settled() {
+    for case in &CASES {
+        let (settled, plan) = figures(Mode::Settled, case);
+        match case.name {
+            "M4" => assert_eq!(settled, (12, (2, 0, 2))),
+            "M8" => assert_eq!(settled, (12, (3, 0, 2))),
+            name => assert_eq!((settled, plan), figures(Mode::Paper, case), "{name}"),
+        }
     }
 }
 
@@ -282,43 +286,26 @@ fn circles_then_states_then_ready_sets() {
     assert_eq!(number_of(&[letters(7), vec![end(), moves(&[8])]].concat()), 18);
 }
 
-/// A plan of these rows, each of codes and next states.
-fn plan(n: u8, k: u8, rows: &[&[(u8, u16)]]) -> Vec<u8> {
-    let (mut bytes, mut index) = (Vec::new(), Vec::new());
-    for row in rows {
-        index.extend((bytes.len() as u32).to_le_bytes());
-        bytes.push(row.len() as u8);
-        bytes.extend(row.iter().flat_map(|(code, next)| [*code, *next as u8, (next >> 8) as u8]));
-    }
-    let offset = (bytes.len() as u32).to_le_bytes();
-    bytes.extend(index);
-    bytes.extend(offset);
-    bytes.extend((rows.len() as u16).to_le_bytes());
-    bytes.extend([n, k]);
-    bytes
-}
-
-/// The number of the check, and what is at fault, which is nothing unless the number is 21.
 fn checked(old: &[u8], new: &[u8], plan: &[u8], records: usize) -> (u8, Fault) {
-    let mut checker = Checker::new();
-    let answer = checker.check(old, new, plan, records);
-    let fault = checker.fault(old, new, plan, records);
-    assert_eq!(answer, Answer { number: answer.number, sheet: answer.sheet, state: answer.state, ..Answer::default() });
-    assert_eq!(answer.number == 21, fault != Fault::default());
-    (answer.number, fault)
+    checked_in(Mode::Paper, old, new, plan, records)
 }
 
-/// Each of M1 to M13 that connects, with a record for each plan state, and with one less.
+/// Each of M1 to M13 that connects, with a record for each plan state, and with one less. Told the other mode, a settled
+/// plan is accepted too, and the paper's unless the case is M4 or M8.
 #[test]
 fn emitted_plans_are_accepted() {
-    for case in CASES.iter().filter(|case| case.number == 0) {
-        let (old, new) = (sheet(case.n, 0, case.old), sheet(case.n, 0, case.new));
-        let mut plan = vec![0; LONGEST_PLAN];
-        let answer = connect(case.k, &old, &new, 1024, &mut plan);
-        plan.truncate(answer.length as usize);
-        let states = usize::from(answer.states);
-        assert_eq!(checked(&old, &new, &plan, states).0, 0, "{}", case.name);
-        assert_eq!(checked(&old, &new, &plan, states - 1).0, 11, "{}", case.name);
+    for (mode, other) in [(Mode::Paper, Mode::Settled), (Mode::Settled, Mode::Paper)] {
+        for case in &CASES {
+            let ((number, (_, states, _)), plan) = figures(mode, case);
+            if number != 0 {
+                continue;
+            }
+            let (old, new) = (sheet(case.n, 0, case.old), sheet(case.n, 0, case.new));
+            let number = |mode, records: u16| checked_in(mode, &old, &new, &plan, records.into()).0;
+            assert_eq!([number(mode, states), number(mode, states - 1)], [0, 11], "{}", case.name);
+            let due = if matches!(case.name, "M4" | "M8") { 21 } else { 0 };
+            assert_eq!([number(other, states), number(other, states - 1)], [due, 11], "{}", case.name);
+        }
     }
 }
 

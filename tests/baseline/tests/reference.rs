@@ -2,7 +2,7 @@
 //! step_cases, client_cases, choosing_cases and edit_cases. tests/reference/README.md says how the records and the lines
 //! are laid out.
 
-use baseline::{complies, convert, step, Checker, Workspace};
+use baseline::{complies, convert, step, Checker, Mode, Workspace};
 use std::path::Path;
 
 /// The stored input of a test program and what it is to print.
@@ -53,10 +53,10 @@ fn sheets() {
 fn pairs() {
     let mut workspace = Workspace::new(usize::from(u16::MAX));
     agree("pair_cases", 2, |record| {
-        let behind = 7 + word(record, 5);
+        let (mode, k, behind) = (Mode::named(record[4]), record[5], 8 + word(record, 6));
         let mut plan = vec![0xEE; word(record, 2)];
-        let (old, new) = (&record[7..behind], &record[behind..]);
-        let answer = workspace.connect(record[4], old, new, word(record, 0), &mut plan);
+        let (old, new) = (&record[8..behind], &record[behind..]);
+        let answer = workspace.connect(mode, k, old, new, word(record, 0), &mut plan);
         vec![
             answer.number.into(),
             answer.sheet.into(),
@@ -103,12 +103,12 @@ fn choosing_sheets() {
 fn edited_plans() {
     let mut checker = Checker::new();
     agree("edit_cases", 0, |record| {
-        let records = word(record, 0);
-        let behind = 4 + word(record, 2);
-        let (old, new) = (&record[4..behind], &record[behind + 2..]);
+        let (records, mode) = (word(record, 0), Mode::named(record[2]));
+        let behind = 5 + word(record, 3);
+        let (old, new) = (&record[5..behind], &record[behind + 2..]);
         let (new, plan) = new.split_at(word(record, behind));
-        let answer = checker.check(old, new, plan, records);
-        let fault = checker.fault(old, new, plan, records);
+        let answer = checker.check(mode, old, new, plan, records);
+        let fault = checker.fault(mode, old, new, plan, records);
         let lent = if matches!(answer.number, 1..=9 | 14) { [0, records as u64] } else { [records as u64, 0] };
         let head: [u64; 3] = [answer.number.into(), answer.sheet.into(), answer.state.into()];
         let wrong: [u64; 4] = [fault.condition.into(), fault.code.into(), fault.ready.into(), fault.state.into()];
