@@ -4,15 +4,16 @@
  *
  * `rt staticlib adapter` proves the library and writes it to target/staticlib/libadapter.a, for x86-64 Linux. It needs nothing else but
  * memcpy and memset of the C library. examples/c is a program that uses it. The rules, sheets and plans are those of document 01 with
- * request 2/13 of document 02, choosing sheets those of its request 1/13, the check of a plan that of its request 3/13; the words in
- * quotation marks below are taken from them. docs/FORMATS.md explains sheets and plans byte by byte, docs/GLOSSARY.md the words.
+ * request 2/13 of document 02, choosing sheets those of its request 1/13, the check of a plan that of its request 3/13, the settled mode
+ * that of its request 5/13; the words in quotation marks below are taken from them. docs/FORMATS.md explains sheets and plans byte by byte,
+ * docs/GLOSSARY.md the words.
  *
  * What the caller promises. The proof begins here: of a call that breaks one of these, nothing is said.
  *   - Each pointer leads to as many elements as the length behind it says, in one object, all of them initialised; any values will do. A
  *     length counts elements: records for the work table, bytes for all else. With length 0 the pointer may be null.
  *   - The work table is aligned as an array of struct adapter_record is, to 4 bytes. Bytes may stand anywhere.
  *   - The work table, the lent plan and the lent output overlap nothing else that is passed. What is only read may overlap: one sheet may
- *     be passed twice. A plan is lent to adapter_connect alone; a plan that is stepped or checked is only read.
+ *     be passed twice. A plan is lent to adapter_connect and adapter_connect_mode alone; a plan that is stepped or checked is only read.
  *   - While a call runs, nothing else writes to what is passed, or reads the work table, the lent plan or the lent output.
  *
  * What it gets for that. Bytes of all kinds and lengths are answered, by a result or a refusal; every call ends; no call reads or writes
@@ -34,7 +35,7 @@ extern "C" {
 #endif
 
 /* Rises with every change of this header. */
-#define ADAPTER_HEADER_VERSION 4
+#define ADAPTER_HEADER_VERSION 5
 
 /*
  * The bytes of the longest sheet. A longer one is refused as ADAPTER_LENGTH. With this much lent, no choosing sheet is refused as
@@ -54,9 +55,9 @@ extern "C" {
 /*
  * The number of an answer: 0, or what is wrong. The comments are document 01's, "Given when", and from 17 on document 02's. In a state's row
  * the bits of all masks are tested before the order of any (document 02, request 2/13): where both are wrong the answer is ADAPTER_ACTION.
- * 12 is proved to mean that no adapter would do: no relation of definition 3.7 of Padovani 2010 holds the start with this k, and some client
- * that complies with the old contract can hang behind every adapter, a plan or not, that keeps at most k messages of each name and
- * direction and makes none up.
+ * In the paper's mode, 12 is proved to mean that no adapter would do: no relation of definition 3.7 of Padovani 2010 holds the start with
+ * this k, and some client that complies with the old contract can hang behind every adapter, a plan or not, that keeps at most k messages of
+ * each name and direction and makes none up. In the settled mode it means that the start is removed by the stricter test.
  */
 enum adapter_refusal {
     ADAPTER_ACCEPTED = 0,
@@ -71,7 +72,7 @@ enum adapter_refusal {
     ADAPTER_NAMES = 9,       /* the two sheets differ in n, or a checked plan differs from them */
     ADAPTER_RANK = 10,       /* k above 3 */
     ADAPTER_CAPACITY = 11,   /* reached situations, in a check of a plan reached pairs, exceed the lent records or 4,096 */
-    ADAPTER_NO_ADAPTER = 12, /* the start is removed: no weak k-subcontract relation holds it */
+    ADAPTER_NO_ADAPTER = 12, /* the start is removed: in the paper's mode, no weak k-subcontract relation holds it */
     ADAPTER_ROOM = 13,       /* the plan is longer than the lent plan, or the sheet than the lent output */
     ADAPTER_PLAN = 14,       /* a stepped or checked plan breaks the plan layout */
     ADAPTER_STATE = 15,      /* not a state of the plan */
@@ -81,6 +82,20 @@ enum adapter_refusal {
     ADAPTER_STATES = 19,     /* more than 64 states */
     ADAPTER_READY_SETS = 20, /* more than 8 ready sets in a state */
     ADAPTER_UNSOUND = 21     /* unsound plan */
+};
+
+/*
+ * By which test a pair is connected, and a plan checked. Where a mode is passed, 0 means the paper's and any other number the settled one,
+ * which is the stricter: a number that is neither of these means ADAPTER_SETTLED. Nothing is refused for its mode.
+ *
+ * The paper's is the test of document 01. In the settled mode that "test has a second part: if the old state has an empty ready set and any
+ * count for the service is above 0, then for every ready set S of the new state some j in S has 32+j in A". So where the old service may
+ * have ended and a message for the service is still kept, there is a move with the new one alone, whichever ready set it has chosen. "Plans
+ * bear no mark of the mode": a plan can be checked in either.
+ */
+enum adapter_mode {
+    ADAPTER_PAPER = 0,  /* document 01's test: an adapter may take a message and never deliver it */
+    ADAPTER_SETTLED = 1 /* that test with its second part */
 };
 
 /*
@@ -132,9 +147,9 @@ struct adapter_sheet_answer {
  * answer. adapter_plan_fault says what the conditions are.
  */
 struct adapter_fault {
-    uint8_t condition;  /* the first that fails: 1, 2 or 3; 0 where nothing is at fault */
+    uint8_t condition;  /* the first that fails: 1, 2 or 3, or in the settled mode 4; 0 where nothing is at fault */
     uint8_t code;       /* of conditions 1 and 2: the code of the first move of the row that breaks it; else 0 */
-    uint16_t ready;     /* of condition 3: the mask of the first ready set of the new state that is not answered; else 0 */
+    uint16_t ready;     /* of conditions 3 and 4: the mask of the first ready set of the new state for which it fails; else 0 */
     uint16_t state;     /* the plan state whose row it is */
     uint8_t counts[14]; /* the messages that wait there: of name i, counts[i] for the service and counts[7 + i] for the client */
     uint8_t old_state;  /* the state of the old sheet there */
@@ -142,7 +157,8 @@ struct adapter_fault {
 };
 
 /*
- * Connects two service sheets, with up to k messages of each name and direction kept (k is 0 to 3), and writes the plan.
+ * Connects two service sheets in the paper's mode, with up to k messages of each name and direction kept (k is 0 to 3), and writes the
+ * plan. It is adapter_connect_mode with the mode ADAPTER_PAPER.
  *
  * The work table is the memory of the call: a record for each situation that the pair reaches. It has to be initialised before the call,
  * with anything: the answer is the same whatever it holds, but the library reads records before it writes them, and a memory checker
@@ -158,6 +174,17 @@ struct adapter_fault {
  */
 struct adapter_answer adapter_connect(uint8_t k, const uint8_t *old_sheet, size_t old_len, const uint8_t *new_sheet, size_t new_len,
                                       struct adapter_record *work, size_t work_len, uint8_t *plan, size_t plan_len);
+
+/*
+ * Connects in a mode: 0 is the paper's, any other number the settled one, which is the stricter. Everything else is as for adapter_connect:
+ * the order of refusals, the work table, the lent plan. Refusals 1 to 11 and the count of situations do not depend on the mode.
+ *
+ * In a settled plan no run stands still, for whichever client, where the old state has an empty ready set and a message still waits for the
+ * service. The client need not comply with the old contract for that. The old state is the one that the moves made so far lead to in the
+ * old sheet: those passed straight, and those with the client alone.
+ */
+struct adapter_answer adapter_connect_mode(uint8_t mode, uint8_t k, const uint8_t *old_sheet, size_t old_len, const uint8_t *new_sheet,
+                                           size_t new_len, struct adapter_record *work, size_t work_len, uint8_t *plan, size_t plan_len);
 
 /*
  * The state that a plan goes to from a state by a code: "the next state, or 0 with a refusal". The start is state 0. A plan ends where its
@@ -180,33 +207,36 @@ struct adapter_complies_answer adapter_complies(const uint8_t *client, size_t cl
 struct adapter_sheet_answer adapter_from_choosing(const uint8_t *choosing, size_t choosing_len, uint8_t *sheet, size_t sheet_len);
 
 /*
- * Whether a plan holds for two service sheets, whoever wrote it or edited it; the sheets as for connecting, the old one first. k and n are
- * the plan's own. plan_len is the plan's length, and not how much room there is.
+ * Whether a plan holds for two service sheets, whoever wrote it or edited it; the sheets as for connecting, the old one first. The mode is
+ * told, and read as by adapter_connect_mode: 0 is the paper's, any other number the settled one. k and n are the plan's own. plan_len is the
+ * plan's length, and not how much room there is.
  *
  * Walked are "the pairs of plan state and situation that the rows' enabled moves reach", from plan state 0 and the start on. The number is
- * ADAPTER_ACCEPTED exactly if in each of them the three conditions of adapter_plan_fault hold. What is proved of runs of a plan that
- * connecting wrote then holds of this one: a client that complies with the old sheet comes to a standstill only where it has succeeded, and
- * at most 2 times k times n moves with the service alone come in a row. ADAPTER_UNSOUND does not mean that some client will hang: the
- * conditions ask for more than that.
+ * ADAPTER_ACCEPTED exactly if in each of them the conditions of adapter_plan_fault hold: the first three, and in the settled mode the fourth
+ * too. What is proved of runs of a plan that connecting wrote in that mode then holds of this one: a client that complies with the old sheet
+ * comes to a standstill only where it has succeeded, and at most 2 times k times n moves with the service alone come in a row; settled, no
+ * run stands still, for whichever client, where the old state has an empty ready set and a message still waits for the service. A plan that
+ * is accepted settled is accepted in the paper's mode too. ADAPTER_UNSOUND does not mean that some client will hang: the conditions ask for
+ * more than that.
  *
  * The first refusal in this order is the answer: 1 to 7 of the old sheet, 1 to 7 of the new one, 8, 9, 14, 9 again where the plan's n is
  * not that of the sheets, 11, 21. 11 comes before 21: pairs are counted to the end, also behind one that breaks a condition. So with too
  * few records nothing is said of the plan.
  *
  * The work table is the memory of the call, a record for each pair; it has to be initialised, as for connecting. For a plan that connecting
- * wrote for these sheets one record for each plan state is enough: `states` of that answer. It stays enough when moves are struck out,
- * which adds no pair. After other edits a plan state can stand in more pairs than one. After the call:
+ * wrote for these sheets one record for each plan state is enough, in either mode: `states` of that answer. It stays enough when moves are
+ * struck out, which adds no pair. After other edits a plan state can stand in more pairs than one. After the call:
  *
  *   number         the work table
  *   1 to 9, 14     unchanged
  *   0, 11, 21      each record in it is zero
  */
-struct adapter_answer adapter_check_plan(const uint8_t *old_sheet, size_t old_len, const uint8_t *new_sheet, size_t new_len,
+struct adapter_answer adapter_check_plan(uint8_t mode, const uint8_t *old_sheet, size_t old_len, const uint8_t *new_sheet, size_t new_len,
                                          const uint8_t *plan, size_t plan_len, struct adapter_record *work, size_t work_len);
 
 /*
- * What is at fault where adapter_check_plan answers ADAPTER_UNSOUND for the same arguments; all zero where it gives any other answer. It
- * walks the pairs by itself, so neither call has to come before the other, and leaves the work table as that one does.
+ * What is at fault where adapter_check_plan answers ADAPTER_UNSOUND for the same arguments, the mode included; all zero where it gives any
+ * other answer. It walks the pairs by itself, so neither call has to come before the other, and leaves the work table as that one does.
  *
  * The fault is in the first pair, breadth first and codes ascending, in which one of these does not hold, and it is the first that does
  * not:
@@ -218,10 +248,14 @@ struct adapter_answer adapter_check_plan(const uint8_t *old_sheet, size_t old_le
  *   condition 3    "the row as A passes 01's test". If the new service has chosen the ready set `ready`, no ready set of the old state lies
  *                  within what the row then shows the client, and the row has no move with the service alone for an action of `ready`. The
  *                  ready set with no action has the mask 0.
+ *   condition 4    in the settled mode alone, the test's second part, the row as A. The old state has an empty ready set and a message waits
+ *                  for the service (`counts`, 0 to 6), but if the new service has chosen the ready set `ready`, the row has no move with the
+ *                  service alone for an action of it. `code` is 0, and `ready` may be 0.
  *
- * So with 1 and 2 the row has a move that it must not have in this pair, and with 3 one is missing, as when it was struck out.
+ * So with 1 and 2 the row has a move that it must not have in this pair. With 3 one is missing, as when it was struck out. With 4 one is
+ * missing too, or the pair must not be reached: then it is a move towards it that has to be struck out.
  */
-struct adapter_fault adapter_plan_fault(const uint8_t *old_sheet, size_t old_len, const uint8_t *new_sheet, size_t new_len,
+struct adapter_fault adapter_plan_fault(uint8_t mode, const uint8_t *old_sheet, size_t old_len, const uint8_t *new_sheet, size_t new_len,
                                         const uint8_t *plan, size_t plan_len, struct adapter_record *work, size_t work_len);
 
 #if defined(__cplusplus) && __cplusplus >= 201103L

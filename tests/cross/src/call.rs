@@ -1,6 +1,7 @@
 //! A call with all its arguments, and its form as text.
 
 use crate::chance::Chance;
+use baseline::Mode;
 
 #[derive(Clone, Debug, PartialEq, Eq)]
 pub enum Call {
@@ -11,9 +12,11 @@ pub enum Call {
     CheckPlan(CheckPlan),
 }
 
-/// With `null`, slices without elements pass as null pointers. With `small`, the lent records hold small numbers.
+/// Without a mode it is adapter_connect that is called, with one adapter_connect_mode. With `null`, slices without elements
+/// pass as null pointers. With `small`, the lent records hold small numbers.
 #[derive(Clone, Debug, Default, PartialEq, Eq)]
 pub struct Connect {
+    pub mode: Option<u8>,
     pub k: u8,
     pub old: Vec<u8>,
     pub new: Vec<u8>,
@@ -48,6 +51,7 @@ pub struct FromChoosing {
 /// The check of a plan, and what is at fault in it: both are called, one after the other, each with a table filled anew.
 #[derive(Clone, Debug, Default, PartialEq, Eq)]
 pub struct CheckPlan {
+    pub mode: u8,
     pub old: Vec<u8>,
     pub new: Vec<u8>,
     pub plan: Vec<u8>,
@@ -56,19 +60,33 @@ pub struct CheckPlan {
     pub small: bool,
 }
 
+/// A byte that names the settled mode: for one in two the 1 of the header.
+pub fn settled(chance: &mut Chance) -> u8 {
+    let any = chance.between(1, 255) as u8;
+    chance.pick(&[1, any])
+}
+
 impl Connect {
-    /// A call with so many records and plan bytes lent.
+    /// A call with so many records and plan bytes lent. One in two is settled; most of the others have no mode.
     pub fn new(chance: &mut Chance, k: u8, old: Vec<u8>, new: Vec<u8>, records: usize, room: usize) -> Connect {
+        let settled = Some(settled(chance));
+        let mode = chance.pick(&[None, None, None, Some(0), settled, settled, settled, settled]);
         let kind = chance.below(4);
-        Connect { k, old, new, records, room, null: kind < 2, small: kind % 2 == 1 }
+        Connect { mode, k, old, new, records, room, null: kind < 2, small: kind % 2 == 1 }
+    }
+
+    /// The mode, where there is none the paper's.
+    pub fn mode(&self) -> Mode {
+        Mode::named(self.mode.unwrap_or(0))
     }
 }
 
 impl CheckPlan {
-    /// The call with these sheets and this plan, and so many records lent.
+    /// The call with these sheets and this plan, and so many records lent. One in two is settled.
     pub fn new(chance: &mut Chance, old: Vec<u8>, new: Vec<u8>, plan: Vec<u8>, records: usize) -> CheckPlan {
-        let kind = chance.below(4);
-        CheckPlan { old, new, plan, records, null: kind < 2, small: kind % 2 == 1 }
+        let settled = settled(chance);
+        let (mode, kind) = (chance.pick(&[0, settled]), chance.below(4));
+        CheckPlan { mode, old, new, plan, records, null: kind < 2, small: kind % 2 == 1 }
     }
 }
 
@@ -133,7 +151,8 @@ impl Field<'_> {
 impl Call {
     pub fn name(&self) -> &'static str {
         match self {
-            Call::Connect(_) => "connect",
+            Call::Connect(Connect { mode: None, .. }) => "connect",
+            Call::Connect(_) => "connect_mode",
             Call::Step(_) => "step",
             Call::Complies(_) => "complies",
             Call::FromChoosing(_) => "from_choosing",
@@ -145,11 +164,14 @@ impl Call {
     #[rustfmt::skip]
     pub fn fields(&mut self) -> Vec<(&'static str, Field<'_>)> {
         match self {
-            Call::Connect(Connect { k, old, new, records, room, null, small }) => vec![
-                ("k", Field::Byte(k)), ("old", Field::Bytes(old)), ("new", Field::Bytes(new)),
-                ("records", Field::Size(records)), ("room", Field::Size(room)),
-                ("null", Field::Flag(null)), ("small", Field::Flag(small)),
-            ],
+            Call::Connect(Connect { mode, k, old, new, records, room, null, small }) => {
+                let mode = mode.iter_mut().map(|mode| ("mode", Field::Byte(mode)));
+                mode.chain([
+                    ("k", Field::Byte(k)), ("old", Field::Bytes(old)), ("new", Field::Bytes(new)),
+                    ("records", Field::Size(records)), ("room", Field::Size(room)),
+                    ("null", Field::Flag(null)), ("small", Field::Flag(small)),
+                ]).collect()
+            }
             Call::Step(Step { plan, state, code, null }) => vec![
                 ("plan", Field::Bytes(plan)), ("state", Field::Word(state)),
                 ("code", Field::Byte(code)), ("null", Field::Flag(null)),
@@ -160,7 +182,8 @@ impl Call {
             Call::FromChoosing(FromChoosing { choosing, room, null }) => vec![
                 ("choosing", Field::Bytes(choosing)), ("room", Field::Size(room)), ("null", Field::Flag(null)),
             ],
-            Call::CheckPlan(CheckPlan { old, new, plan, records, null, small }) => vec![
+            Call::CheckPlan(CheckPlan { mode, old, new, plan, records, null, small }) => vec![
+                ("mode", Field::Byte(mode)),
                 ("old", Field::Bytes(old)), ("new", Field::Bytes(new)), ("plan", Field::Bytes(plan)),
                 ("records", Field::Size(records)), ("null", Field::Flag(null)), ("small", Field::Flag(small)),
             ],
@@ -181,6 +204,7 @@ impl Call {
         let mut lines = text.lines().map(str::trim).filter(|line| !line.is_empty() && !line.starts_with('#'));
         let mut call = match lines.next()? {
             "connect" => Call::Connect(Connect::default()),
+            "connect_mode" => Call::Connect(Connect { mode: Some(0), ..Connect::default() }),
             "step" => Call::Step(Step::default()),
             "complies" => Call::Complies(Complies::default()),
             "from_choosing" => Call::FromChoosing(FromChoosing::default()),
@@ -203,15 +227,18 @@ mod tests {
     #[test]
     fn a_call_is_read_as_it_was_written() {
         let mut chance = Chance::new(7);
-        let connect = Connect::new(&mut chance, 3, vec![1, 0xC5], vec![], 5, 21);
+        let connect = Connect { mode: None, ..Connect::new(&mut chance, 3, vec![1, 0xC5], vec![], 5, 21) };
+        let settled = Connect { mode: Some(255), ..connect.clone() };
         let step = Step { plan: vec![0, 0xFF], state: 65535, code: 255, null: true };
         let complies = Complies { client: vec![9], ..Complies::default() };
         let converted = FromChoosing { choosing: vec![1, 0xC6], room: 2118, null: true };
-        let checked = CheckPlan::new(&mut chance, vec![2], vec![], vec![3, 0xEE], 4097);
-        let calls = [Call::Connect(connect), Call::Step(step), Call::Complies(complies), Call::FromChoosing(converted)];
-        for call in calls.into_iter().chain([Call::CheckPlan(checked)]) {
+        let checked = CheckPlan { mode: 128, ..CheckPlan::new(&mut chance, vec![2], vec![], vec![3, 0xEE], 4097) };
+        let connecting = [connect, settled].map(Call::Connect);
+        let others = [Call::Step(step), Call::Complies(complies), Call::FromChoosing(converted)];
+        for call in connecting.into_iter().chain(others).chain([Call::CheckPlan(checked)]) {
             assert_eq!(Call::read(&format!("# why\n{}", call.text())), Some(call));
         }
+        assert_eq!(Call::read("connect\nmode 1\n"), None);
         assert_eq!(Call::read("step\ncode 256\n"), None);
         assert_eq!(Call::read("step\nplan 1g\n"), None);
         assert_eq!(Call::read(""), None);

@@ -120,8 +120,10 @@ impl Shape {
             let succeeds = role == CLIENT && !chance.one_in(4);
             return vec![if succeeds { SUCCESS } else { 0 }];
         }
-        let count = chance.between(1, self.ready);
-        (0..count).map(|_| self.mask(chance) | if role == CLIENT && chance.one_in(6) { SUCCESS } else { 0 }).collect()
+        // Beside other ready sets, one in four is empty.
+        let actions = |chance: &mut Chance, place| if place > 0 && chance.one_in(4) { 0 } else { self.mask(chance) };
+        let mark = |chance: &mut Chance| if role == CLIENT && chance.one_in(6) { SUCCESS } else { 0 };
+        (0..chance.between(1, self.ready)).map(|place| actions(chance, place) | mark(chance)).collect()
     }
 
     pub fn contract(&self, chance: &mut Chance, role: u8) -> Contract {
@@ -153,6 +155,21 @@ impl Shape {
         let new = if chance.one_in(3) { self.contract(chance, SERVICE) } else { self.resembling(chance, &old) };
         (old, new)
     }
+}
+
+/// Two services over the same names, with few first moves: the old one may end behind them, the new one takes less.
+pub fn ending_pair(chance: &mut Chance) -> (Contract, Contract) {
+    let shape = Shape { n: chance.between(1, 3) as u8, states: chance.between(2, 4), ready: 2, actions: 2 };
+    let (mut old, mut new) = shape.pair(chance);
+    for state in &mut old.states[1..] {
+        let also: &[u16] = if chance.one_in(3) { &[] } else { &[0] };
+        *state = State::of([&state.ready, also].concat(), state.after);
+    }
+    for state in &mut new.states {
+        let less = if chance.one_in(3) { 1 << chance.below(shape.n.into()) } else { 0 };
+        *state = State::of(state.ready.iter().map(|ready| ready & !less).collect(), state.after);
+    }
+    (old, new)
 }
 
 fn successors(chance: &mut Chance, count: usize) -> [u8; 14] {
@@ -193,6 +210,7 @@ pub fn ring(states: u8) -> (Contract, Contract) {
 #[cfg(test)]
 mod tests {
     use super::*;
+    use baseline::{Mode, Workspace};
 
     #[test]
     fn m1_is_written_as_in_document_01() {
@@ -204,7 +222,7 @@ mod tests {
     #[test]
     fn a_ring_takes_as_many_rounds_as_it_has_situations() {
         let (old, new) = ring(15);
-        let answer = baseline::Workspace::new(240).connect(0, &old.sheet(), &new.sheet(), 240, &mut []);
+        let answer = Workspace::new(240).connect(Mode::Paper, 0, &old.sheet(), &new.sheet(), 240, &mut []);
         assert_eq!((answer.number, answer.situations, answer.rounds), (12, 240, 240));
     }
 }

@@ -7,6 +7,7 @@ mod edits;
 mod empty;
 mod lengths;
 mod many;
+mod modes;
 mod noise;
 mod pairs;
 mod single;
@@ -32,7 +33,7 @@ impl Share {
 type Part = fn(&mut Runner, &mut Chance, Share) -> Checked;
 
 /// The parts, by name.
-pub const PARTS: [(&str, Part); 20] = [
+pub const PARTS: [(&str, Part); 21] = [
     ("nothing lent, nothing given", empty::run),
     ("lengths at and beyond the limits", lengths::run),
     ("random bytes of all lengths", noise::run),
@@ -53,6 +54,7 @@ pub const PARTS: [(&str, Part); 20] = [
     ("every byte of checked plans changed", by_hand::single),
     ("checks with many pairs", by_hand::many),
     ("checks at and beyond the limits", by_hand::lengths),
+    ("the same in each mode", modes::run),
 ];
 
 /// An emitted plan that is not trivial, of at most so many bytes.

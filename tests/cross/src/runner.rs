@@ -1,10 +1,11 @@
 //! Runs calls on both sides; the first difference is made small, stored and ends the run.
 
-use crate::call::Call;
+use crate::call::{Call, Connect};
 use crate::failures;
 use crate::smaller::smallest;
 use crate::tally::Tally;
 use crate::target::{Figures, Outcome, Target};
+use baseline::Mode;
 use std::fs::File;
 use std::io;
 use std::os::unix::fs::FileExt;
@@ -64,6 +65,9 @@ impl<'a> Runner<'a> {
             return Err(self.ended(call)?);
         }
         self.tally.count(call, &figures);
+        if let Some(paper) = in_paper_mode(call, &figures) {
+            self.tally.count_settled(&figures, &self.expected.answer(&paper).figures);
+        }
         Ok(figures)
     }
 
@@ -99,6 +103,16 @@ impl<'a> Runner<'a> {
         let words = self.words(&small);
         let path = failures::store(self.folder, &small, &words)?;
         Ok(Ended::Differs { words, path })
+    }
+}
+
+/// A settled call of connecting that counted situations, in the paper's mode: in no other can the modes differ.
+fn in_paper_mode(call: &Call, figures: &Figures) -> Option<Call> {
+    match call {
+        Call::Connect(call) if call.mode() == Mode::Settled && figures[3] > 0 => {
+            Some(Call::Connect(Connect { mode: Some(0), ..call.clone() }))
+        }
+        _ => None,
     }
 }
 

@@ -1,6 +1,6 @@
 //! How often each outcome was met.
 
-use crate::call::{Call, CheckPlan};
+use crate::call::{Call, CheckPlan, Connect};
 use crate::target::{Figures, FAULT};
 use crate::untidy::out_of_order_first;
 use baseline::MOST_SITUATIONS;
@@ -8,14 +8,26 @@ use baseline::MOST_SITUATIONS;
 /// The highest number of a refusal.
 const LAST: usize = 21;
 
-/// The functions, and the numbers that each can answer.
-const FUNCTIONS: [(&str, &[usize]); 5] = [
-    ("connect", &[0, 1, 2, 3, 4, 5, 6, 7, 8, 9, 10, 11, 12, 13]),
+const CONNECTING: &[usize] = &[0, 1, 2, 3, 4, 5, 6, 7, 8, 9, 10, 11, 12, 13];
+const CHECKING: &[usize] = &[0, 1, 2, 3, 4, 5, 6, 7, 8, 9, 11, 14, 21];
+
+/// The functions, those with a mode by its byte, and the numbers that each can answer.
+const FUNCTIONS: [(&str, &[usize]); 8] = [
+    ("connect", CONNECTING),
+    ("connect, 0", CONNECTING),
+    ("connect, 1..", CONNECTING),
     ("step", &[0, 14, 15, 16]),
     ("complies", &[0, 1, 2, 3, 4, 5, 6, 7, 8, 9]),
     ("from_choosing", &[0, 13, 17, 18, 19, 20]),
-    ("check_plan", &[0, 1, 2, 3, 4, 5, 6, 7, 8, 9, 11, 14, 21]),
+    ("check, 0", CHECKING),
+    ("check, 1..", CHECKING),
 ];
+
+/// The place of the client check among them.
+const COMPLIES: usize = 4;
+
+/// Of settled calls that count situations, one in so many at least is to differ from the paper's mode.
+const RARE: u64 = 20;
 
 #[derive(Default)]
 pub struct Tally {
@@ -23,13 +35,16 @@ pub struct Tally {
     /// Calls that count situations: fewer than 10, than 100, than 1,000, and more.
     situations: [u64; 4],
     after_removal: u64,
+    /// Settled calls that count situations: answered as in the paper's mode, by another plan or other rounds, and by 12
+    /// though the pair connects there.
+    settled: [u64; 3],
     yes: u64,
     /// Rows refused for a bit too many whose first mask at fault is out of order.
     out_of_order: u64,
     /// Choosing sheets converted to sheets of fewer than 100 bytes, than 1,000, and more.
     converted: [u64; 3],
     /// Unsound plans by the condition that fails first.
-    conditions: [u64; 3],
+    conditions: [u64; 4],
     /// Plans refused for names other than both sheets'; for more pairs than there may be, whatever is lent.
     other_names: u64,
     beyond: u64,
@@ -39,25 +54,39 @@ impl Tally {
     pub fn count(&mut self, call: &Call, figures: &Figures) {
         let number = figures[0] as usize;
         let function = match call {
-            Call::Connect(_) => 0,
-            Call::Step(_) => 1,
-            Call::Complies(_) => 2,
-            Call::FromChoosing(_) => 3,
-            Call::CheckPlan(_) => 4,
+            Call::Connect(Connect { mode: None, .. }) => 0,
+            Call::Connect(Connect { mode: Some(0), .. }) => 1,
+            Call::Connect(_) => 2,
+            Call::Step(_) => 3,
+            Call::Complies(_) => COMPLIES,
+            Call::FromChoosing(_) => 5,
+            Call::CheckPlan(CheckPlan { mode: 0, .. }) => 6,
+            Call::CheckPlan(_) => 7,
         };
         self.numbers[function][number] += 1;
-        if function == 0 && figures[3] > 0 {
-            self.situations[figures[3].ilog10() as usize] += 1;
-        }
-        self.after_removal += u64::from(function == 0 && number == 0 && figures[5] > 0);
-        self.yes += u64::from(function == 2 && figures[3] == 1);
         self.out_of_order += u64::from(out_of_order_first(call, figures));
-        if function == 3 && number == 0 {
-            self.converted[(figures[3].ilog10() as usize).saturating_sub(1).min(2)] += 1;
+        match call {
+            Call::Connect(_) if figures[3] > 0 => {
+                self.situations[figures[3].ilog10() as usize] += 1;
+                self.after_removal += u64::from(number == 0 && figures[5] > 0);
+            }
+            Call::Complies(_) => self.yes += u64::from(figures[3] == 1),
+            Call::FromChoosing(_) if number == 0 => {
+                self.converted[(figures[3].ilog10() as usize).saturating_sub(1).min(2)] += 1;
+            }
+            Call::CheckPlan(check) => self.count_check(check, figures),
+            _ => {}
         }
-        if let Call::CheckPlan(check) = call {
-            self.count_check(check, figures);
-        }
+    }
+
+    /// Counts a settled call, given the figures of both modes.
+    pub fn count_settled(&mut self, settled: &Figures, paper: &Figures) {
+        let kind = match (settled[0], paper[0]) {
+            _ if settled == paper => 0,
+            (12, 0 | 13) => 2,
+            _ => 1,
+        };
+        self.settled[kind] += 1;
     }
 
     fn count_check(&mut self, check: &CheckPlan, figures: &Figures) {
@@ -86,7 +115,11 @@ impl Tally {
         if self.after_removal == 0 {
             missing.push("no pair was accepted after removals".into());
         }
-        if self.yes == 0 || self.yes == self.numbers[2][0] {
+        let [same, other, refused] = self.settled;
+        if other == 0 || refused == 0 || (RARE - 1) * (other + refused) < same {
+            missing.push("too few settled calls differ from the paper's mode, by another plan or by 12".into());
+        }
+        if self.yes == 0 || self.yes == self.numbers[COMPLIES][0] {
             missing.push("the client check did not say both yes and no".into());
         }
         if self.out_of_order == 0 {
@@ -96,7 +129,7 @@ impl Tally {
             missing.push("no choosing sheets were converted to tens, hundreds or thousands of bytes".into());
         }
         if self.conditions.contains(&0) {
-            missing.push("no plan was unsound by each of the three conditions".into());
+            missing.push("no plan was unsound by each of the four conditions".into());
         }
         if self.other_names == 0 || self.beyond == 0 {
             missing.push("no plan was refused for its own names, or for pairs beyond the limit".into());
@@ -120,7 +153,10 @@ impl Tally {
         let [few, tens, hundreds, thousands] = self.situations;
         lines +=
             &format!("situations below 10: {few}, below 100: {tens}, below 1,000: {hundreds}, more: {thousands}\n");
-        let no = self.numbers[2][0] - self.yes;
+        let [same, other, refused] = self.settled;
+        lines += &format!("settled as in the paper's mode: {same}, by another plan or rounds: {other}, ");
+        lines += &format!("by 12 though it connects there: {refused}\n");
+        let no = self.numbers[COMPLIES][0] - self.yes;
         lines += &format!(
             "accepted after removals: {}; client complies: {}, does not: {no}\n",
             self.after_removal, self.yes
@@ -128,8 +164,9 @@ impl Tally {
         lines += &format!("refused for a bit too many, a mask out of order first: {}\n", self.out_of_order);
         let [tens, hundreds, thousands] = self.converted;
         lines += &format!("converted to bytes below 100: {tens}, below 1,000: {hundreds}, more: {thousands}\n");
-        let [buffer, meeting, test] = self.conditions;
-        lines += &format!("unsound by a count: {buffer}, by a move that is not met: {meeting}, by the test: {test}; ");
+        let [buffer, meeting, test, second] = self.conditions;
+        lines += &format!("unsound by a count: {buffer}, by a move that is not met: {meeting}, by the test: {test}, ");
+        lines += &format!("by its second part: {second}; ");
         lines + &format!("plans of other names: {}, pairs beyond the limit: {}\n", self.other_names, self.beyond)
     }
 }

@@ -2,7 +2,7 @@
 
 use crate::call::{Call, CheckPlan, Complies, Connect, FromChoosing, Step};
 use crate::guarded::Guarded;
-use baseline::{Checker, Workspace};
+use baseline::{Checker, Mode, Workspace};
 use product::{Lent, Table};
 
 /// More records than document 01's limit of situations.
@@ -102,9 +102,10 @@ impl Default for Baseline {
 impl Target for Baseline {
     fn answer(&mut self, call: &Call) -> Outcome<'_> {
         let (figures, lent) = match call {
-            Call::Connect(Connect { k, old, new, records, room, .. }) => {
+            Call::Connect(call) => {
+                let Connect { k, old, new, records, room, .. } = call;
                 self.lent.fill(*room);
-                let answer = self.workspace.connect(*k, old, new, *records, self.lent.inside_mut());
+                let answer = self.workspace.connect(call.mode(), *k, old, new, *records, self.lent.inside_mut());
                 (connect_figures!(answer), Some(&self.lent))
             }
             Call::Step(Step { plan, state, code, .. }) => {
@@ -120,9 +121,10 @@ impl Target for Baseline {
                 let (number, length) = baseline::convert(choosing, self.lent.inside_mut());
                 (sheet_figures(number, 0, 0, length), Some(&self.lent))
             }
-            Call::CheckPlan(CheckPlan { old, new, plan, records, .. }) => {
-                let answer = self.checker.check(old, new, plan, *records);
-                let fault = self.checker.fault(old, new, plan, *records);
+            Call::CheckPlan(CheckPlan { mode, old, new, plan, records, .. }) => {
+                let mode = Mode::named(*mode);
+                let answer = self.checker.check(mode, old, new, plan, *records);
+                let fault = self.checker.fault(mode, old, new, plan, *records);
                 (check_figures!(answer, fault), None)
             }
         };
@@ -152,8 +154,11 @@ impl Product {
         self.second.place(&call.new);
         self.lent.fill(call.room);
         self.table.fill(&lent);
-        let (old, new) = (self.first.inside(), self.second.inside());
-        let answer = self.table.connect(&lent, call.k, old, new, self.lent.inside_mut());
+        let (old, new, plan) = (self.first.inside(), self.second.inside(), self.lent.inside_mut());
+        let answer = match call.mode {
+            None => self.table.connect(&lent, call.k, old, new, plan),
+            Some(mode) => self.table.connect_mode(&lent, mode, call.k, old, new, plan),
+        };
         let as_due = self.table.is_as_due(&lent, answer.number);
         (connect_figures!(answer), as_due && self.first.holds(&call.old) && self.second.holds(&call.new))
     }
@@ -166,10 +171,10 @@ impl Product {
         self.third.place(&call.plan);
         let (old, new, plan) = (self.first.inside(), self.second.inside(), self.third.inside());
         self.table.fill(&lent);
-        let answer = self.table.check_plan(&lent, old, new, plan);
+        let answer = self.table.check_plan(&lent, call.mode, old, new, plan);
         let mut as_due = self.table.is_as_due(&lent, answer.number);
         self.table.fill(&lent);
-        let fault = self.table.plan_fault(&lent, old, new, plan);
+        let fault = self.table.plan_fault(&lent, call.mode, old, new, plan);
         as_due &= self.table.is_as_due(&lent, answer.number);
         as_due &= self.first.holds(&call.old) && self.second.holds(&call.new) && self.third.holds(&call.plan);
         (check_figures!(answer, fault), as_due)

@@ -1,7 +1,7 @@
 //! A wrong side is caught, the input made small and stored, and the stored input replayed. That the right sides
 //! agree is tried at a small share.
 
-use baseline::Checker;
+use baseline::{Checker, Mode, Workspace};
 use cross::call::{Call, CheckPlan, Complies, Connect, FromChoosing, Step};
 use cross::chance::Chance;
 use cross::guarded::Guarded;
@@ -75,7 +75,9 @@ fn a_wrong_state_of_a_refusal() {
             figures[2] -= 1;
         }
     });
-    let Call::Connect(Connect { k: 0, old, new, records: 0, room: 0, null: false, small: false }) = call else {
+    let Call::Connect(Connect { mode: None | Some(0), k: 0, old, new, records: 0, room: 0, null: false, small: false }) =
+        call
+    else {
         panic!("not small: {call:?}");
     };
     // Two rows, the second with one ready set and one successor, the index and the trailer.
@@ -89,7 +91,9 @@ fn a_row_tested_mask_by_mask() {
             figures[0] = 5;
         }
     });
-    let Call::Connect(Connect { k: 0, old, new, records: 0, room: 0, null: false, small: false }) = call else {
+    let Call::Connect(Connect { mode: None | Some(0), k: 0, old, new, records: 0, room: 0, null: false, small: false }) =
+        call
+    else {
         panic!("not small: {call:?}");
     };
     // One row of two masks with both faults in the second, or of three with one fault in each of the last.
@@ -240,8 +244,8 @@ fn checked(call: Call) -> CheckPlan {
 #[test]
 fn an_unsound_plan_before_too_many_pairs() {
     let call = caught("capacity", |call, figures, _, _| {
-        if let (Call::CheckPlan(CheckPlan { old, new, plan, records: 1.., .. }), 11) = (call, figures[0]) {
-            figures[0] = match Checker::new().check(old, new, plan, 5000).number {
+        if let (Call::CheckPlan(CheckPlan { mode, old, new, plan, records: 1.., .. }), 11) = (call, figures[0]) {
+            figures[0] = match Checker::new().check(Mode::named(*mode), old, new, plan, 5000).number {
                 21 => 21,
                 _ => 11,
             };
@@ -257,8 +261,8 @@ fn an_unsound_plan_before_too_many_pairs() {
 #[test]
 fn a_walk_that_ends_at_an_unsound_start() {
     let call = caught("start", |call, figures, _, _| {
-        if let (Call::CheckPlan(CheckPlan { old, new, plan, records: 1.., .. }), 11) = (call, figures[0]) {
-            let fault = Checker::new().fault(old, new, plan, 5000);
+        if let (Call::CheckPlan(CheckPlan { mode, old, new, plan, records: 1.., .. }), 11) = (call, figures[0]) {
+            let fault = Checker::new().fault(Mode::named(*mode), old, new, plan, 5000);
             if fault.condition > 0
                 && fault.counts == [0; 14]
                 && (fault.state, fault.old_state, fault.new_state) == (0, 0, 0)
@@ -277,11 +281,12 @@ fn a_wrong_code_of_a_fault() {
             figures[FAULT + 1] -= 16;
         }
     });
-    // One state each that offers nothing; one row with one move.
-    let CheckPlan { old, new, plan, records: 1, .. } = checked(call) else {
+    // One state each, of which the old one offers nothing; one row with one move, or two where a message has to wait first.
+    let CheckPlan { old, new, plan, records: 1 | 2, .. } = checked(call) else {
         panic!("not small");
     };
-    assert_eq!((old.len(), new.len(), plan.len()), (3 + 2 + 6, 3 + 2 + 6, 4 + 4 + 8));
+    assert_eq!(old.len(), 3 + 2 + 6);
+    assert!(new.len() <= 4 + 2 + 6 && plan.len() <= 2 * 4 + 2 * 4 + 8, "{new:?}, {plan:?}");
 }
 
 #[test]
@@ -314,6 +319,97 @@ fn a_table_left_dirty_behind_an_unsound_plan() {
         *as_due = !(matches!(call, Call::CheckPlan(_)) && figures[0] == 21);
     });
     assert_eq!(checked(call).records, 1);
+}
+
+/// What a call of connecting is answered in a mode, whatever it asks for.
+fn answered_in(mode: Mode, call: &Connect, figures: &mut Figures) {
+    let Connect { k, old, new, records, room, .. } = call;
+    let answer = Workspace::new(*records).connect(mode, *k, old, new, *records, &mut vec![0; *room]);
+    let counts = [answer.situations, answer.states, answer.rounds].map(u32::from);
+    figures[0] = answer.number.into();
+    figures[3..6].copy_from_slice(&counts);
+    figures[6] = answer.length;
+}
+
+/// M4, or M4 with a new service that takes something else: two situations.
+fn swallows(call: &Connect) {
+    let Connect { k: 1, old, new, records: 2, room: 0, null: false, small: false, .. } = call else {
+        panic!("not small: {call:?}");
+    };
+    // A state that takes, one that offers nothing, and one that offers nothing.
+    assert_eq!((old.len(), new.len()), (4 + 3 + 4 + 6, 3 + 2 + 6));
+}
+
+#[test]
+fn a_settled_pair_connected_as_in_the_paper() {
+    let call = caught("paper", |call, figures, _, _| match call {
+        Call::Connect(call) if call.mode() == Mode::Settled && figures[0] == 12 => {
+            answered_in(Mode::Paper, call, figures);
+        }
+        _ => {}
+    });
+    let Call::Connect(call) = call else {
+        panic!("not connecting");
+    };
+    assert_eq!(call.mode, Some(1));
+    swallows(&call);
+}
+
+#[test]
+fn a_mode_that_is_known_by_the_byte_1_alone() {
+    let call = caught("byte-1", |call, figures, _, _| match call {
+        Call::Connect(call) if call.mode > Some(1) && figures[0] == 12 => answered_in(Mode::Paper, call, figures),
+        _ => {}
+    });
+    let Call::Connect(call) = call else {
+        panic!("not connecting");
+    };
+    assert_eq!(call.mode, Some(2));
+    swallows(&call);
+}
+
+#[test]
+fn a_pair_without_a_mode_connected_as_settled() {
+    let call = caught("default", |call, figures, _, _| match call {
+        Call::Connect(call) if call.mode.is_none() && matches!(figures[0], 0 | 13) => {
+            answered_in(Mode::Settled, call, figures);
+        }
+        _ => {}
+    });
+    let Call::Connect(call) = call else {
+        panic!("not connecting");
+    };
+    assert_eq!(call.mode, None);
+    swallows(&call);
+}
+
+/// Told settled, by a check that does not ask for the second part of the test.
+#[test]
+fn a_settled_check_judged_as_in_the_paper() {
+    let call = caught("unsettled", |_, figures, _, _| {
+        if figures[FAULT] == 4 {
+            *figures = Figures::default();
+        }
+    });
+    let CheckPlan { mode: 1, old, new, plan, records: 2, .. } = checked(call) else {
+        panic!("not small");
+    };
+    // As for connecting, and two rows with one move.
+    assert_eq!((old.len(), new.len(), plan.len()), (4 + 3 + 4 + 6, 3 + 2 + 6, 4 + 1 + 8 + 8));
+}
+
+#[test]
+fn a_wrong_ready_set_of_a_settled_fault() {
+    let call = caught("unserved", |_, figures, _, _| {
+        if figures[FAULT] == 4 && figures[FAULT + 2] > 0 {
+            figures[FAULT + 2] = 0;
+        }
+    });
+    let CheckPlan { mode: 1, new, records: 2, .. } = checked(call) else {
+        panic!("not small");
+    };
+    // A state that offers something.
+    assert_eq!(new.len(), 4 + 2 + 6);
 }
 
 #[test]

@@ -39,6 +39,9 @@ int main(void)
     NUMBER(READY_SETS);
     NUMBER(UNSOUND);
 
+    NUMBER(PAPER);
+    NUMBER(SETTLED);
+
     STRUCT(adapter_record);
 
     STRUCT(adapter_answer);

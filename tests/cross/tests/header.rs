@@ -10,7 +10,7 @@ use std::process::Command;
 const HERE: &str = env!("CARGO_MANIFEST_DIR");
 
 /// The header's, which rises with every change of it.
-const VERSION: u32 = 4;
+const VERSION: u32 = 5;
 
 /// The words for the numbers, document 01's for 0 to 16.
 #[rustfmt::skip]
@@ -19,6 +19,9 @@ const WORDS: [&str; 22] = [
     "CAPACITY", "NO_ADAPTER", "ROOM", "PLAN", "STATE", "MOVE", "CHOOSING", "CIRCLE", "STATES", "READY_SETS",
     "UNSOUND",
 ];
+
+/// The words for the modes.
+const MODES: [&str; 2] = ["PAPER", "SETTLED"];
 
 /// A line with a struct's name, size and alignment, then for each field a line with its place and size.
 macro_rules! laid_out {
@@ -38,7 +41,7 @@ macro_rules! laid_out {
 fn declared() -> String {
     let mut lines = format!("HEADER_VERSION {VERSION}\nLONGEST_SHEET {LONGEST_SHEET}\n");
     lines += &format!("MOST_SITUATIONS {MOST_SITUATIONS}\nLONGEST_PLAN {LONGEST_PLAN}\n");
-    for (number, word) in WORDS.iter().enumerate() {
+    for (number, word) in WORDS.iter().enumerate().chain(MODES.iter().enumerate()) {
         lines += &format!("{word} {number}\n");
     }
     lines += &laid_out!("adapter_record", Record);

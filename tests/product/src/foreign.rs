@@ -67,6 +67,14 @@ extern "C" {
         plan: *mut u8, plan_length: usize,
     ) -> Answer;
 
+    pub fn adapter_connect_mode(
+        mode: u8, k: u8,
+        old: *const u8, old_length: usize,
+        new: *const u8, new_length: usize,
+        work: *mut Record, work_length: usize,
+        plan: *mut u8, plan_length: usize,
+    ) -> Answer;
+
     pub fn adapter_step(plan: *const u8, plan_length: usize, state: u16, code: u8) -> Stepped;
 
     pub fn adapter_complies(
@@ -80,6 +88,7 @@ extern "C" {
     ) -> SheetAnswer;
 
     pub fn adapter_check_plan(
+        mode: u8,
         old: *const u8, old_length: usize,
         new: *const u8, new_length: usize,
         plan: *const u8, plan_length: usize,
@@ -87,6 +96,7 @@ extern "C" {
     ) -> Answer;
 
     pub fn adapter_plan_fault(
+        mode: u8,
         old: *const u8, old_length: usize,
         new: *const u8, new_length: usize,
         plan: *const u8, plan_length: usize,

@@ -1,6 +1,7 @@
 //! The work table: how it is lent, filled and looked at.
 
-use crate::foreign::{adapter_check_plan, adapter_connect, adapter_plan_fault, lent, passed, Answer, Fault};
+use crate::foreign::{adapter_check_plan, adapter_connect, adapter_connect_mode, adapter_plan_fault};
+use crate::foreign::{lent, passed, Answer, Fault};
 
 /// How many bytes a record has. It has no gaps, so the product sees every one of them.
 const SIZE: usize = 208;
@@ -92,7 +93,7 @@ impl Table {
         due && records[..GUARDS] == pattern[..GUARDS] && records[behind.clone()] == pattern[behind]
     }
 
-    /// Connects two sheets and writes the plan.
+    /// Connects two sheets in the paper's mode and writes the plan.
     pub fn connect(&mut self, given: &Lent, k: u8, old: &[u8], new: &[u8], plan: &mut [u8]) -> Answer {
         let null = given.null;
         let (old, new) = (passed(old, null), passed(new, null));
@@ -103,23 +104,33 @@ impl Table {
         unsafe { adapter_connect(k, old.0, old.1, new.0, new.1, work.0, work.1, plan.0, plan.1) }
     }
 
-    /// Checks a plan from any hand.
-    pub fn check_plan(&mut self, given: &Lent, old: &[u8], new: &[u8], plan: &[u8]) -> Answer {
+    /// Connects two sheets in the mode that a byte names, and writes the plan.
+    pub fn connect_mode(&mut self, given: &Lent, mode: u8, k: u8, old: &[u8], new: &[u8], plan: &mut [u8]) -> Answer {
+        let null = given.null;
+        let (old, new) = (passed(old, null), passed(new, null));
+        let work = lent(&mut self.records[GUARDS..GUARDS + given.records], null);
+        let plan = lent(plan, null);
+        // As for connecting in the paper's mode.
+        unsafe { adapter_connect_mode(mode, k, old.0, old.1, new.0, new.1, work.0, work.1, plan.0, plan.1) }
+    }
+
+    /// Checks a plan from any hand, in the mode that a byte names.
+    pub fn check_plan(&mut self, given: &Lent, mode: u8, old: &[u8], new: &[u8], plan: &[u8]) -> Answer {
         let null = given.null;
         let (old, new, plan) = (passed(old, null), passed(new, null), passed(plan, null));
         let work = lent(&mut self.records[GUARDS..GUARDS + given.records], null);
         // Each pointer is that of a slice, passed with its length, or null with length 0; the one written to overlaps
         // no other.
-        unsafe { adapter_check_plan(old.0, old.1, new.0, new.1, plan.0, plan.1, work.0, work.1) }
+        unsafe { adapter_check_plan(mode, old.0, old.1, new.0, new.1, plan.0, plan.1, work.0, work.1) }
     }
 
-    /// Says what is at fault in a plan.
-    pub fn plan_fault(&mut self, given: &Lent, old: &[u8], new: &[u8], plan: &[u8]) -> Fault {
+    /// Says what is at fault in a plan, in the mode that a byte names.
+    pub fn plan_fault(&mut self, given: &Lent, mode: u8, old: &[u8], new: &[u8], plan: &[u8]) -> Fault {
         let null = given.null;
         let (old, new, plan) = (passed(old, null), passed(new, null), passed(plan, null));
         let work = lent(&mut self.records[GUARDS..GUARDS + given.records], null);
         // As for the check.
-        unsafe { adapter_plan_fault(old.0, old.1, new.0, new.1, plan.0, plan.1, work.0, work.1) }
+        unsafe { adapter_plan_fault(mode, old.0, old.1, new.0, new.1, plan.0, plan.1, work.0, work.1) }
     }
 }
 

@@ -169,8 +169,11 @@ pub fn lengths(runner: &mut Runner, chance: &mut Chance, share: Share) -> Checke
     let whole = Plan { n: 1, k: 0, rows: vec![vec![(0, 0), (7, 0)]] }.bytes();
     for choice in 0..32 {
         let chosen = |bit: usize, bytes: &[u8]| if choice >> bit & 1 == 1 { bytes.to_vec() } else { Vec::new() };
-        let (old, new, plan, null) = (chosen(0, &sheet), chosen(1, &sheet), chosen(2, &whole), choice >> 3 & 1 == 1);
-        runner.check(&Call::CheckPlan(CheckPlan { old, new, plan, records: choice >> 4 & 1, null, small: !null }))?;
+        let (records, null) = (choice >> 4 & 1, choice >> 3 & 1 == 1);
+        for mode in [0, 1, 255] {
+            let (old, new, plan) = (chosen(0, &sheet), chosen(1, &sheet), chosen(2, &whole));
+            runner.check(&Call::CheckPlan(CheckPlan { mode, old, new, plan, records, null, small: !null }))?;
+        }
     }
     for _ in 0..share.of(20) {
         for length in SHEETS {

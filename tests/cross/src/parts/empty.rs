@@ -16,7 +16,10 @@ pub fn run(runner: &mut Runner, chance: &mut Chance, _: Share) -> Checked {
         let (old, new, plan) = (chosen(0, &sheet), chosen(1, &sheet), chosen(1, &[0; 20]));
         let (records, room, null) = (choice >> 2 & 1, 40 * (choice >> 3 & 1), choice >> 4 & 1 == 1);
         let k = 4 * (choice >> 5) as u8;
-        runner.check(&Call::Connect(Connect { k, old, new, records, room, null, small: !null }))?;
+        for mode in [None, Some(0), Some(1), Some(255)] {
+            let (old, new) = (old.clone(), new.clone());
+            runner.check(&Call::Connect(Connect { mode, k, old, new, records, room, null, small: !null }))?;
+        }
         runner.check(&Call::Step(Step { plan, state: 0, code: 0, null }))?;
         runner.check(&Call::Complies(Complies { client: chosen(0, &client), service: chosen(1, &sheet), null }))?;
         runner.check(&Call::FromChoosing(FromChoosing { choosing: chosen(0, &ends), room, null }))?;
