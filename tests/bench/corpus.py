@@ -1,10 +1,11 @@
 """Writes the benchmark's inputs: `python3 -m tests.bench.corpus FOLDER` from the repository's root.
 
-Three files, `inputs`, `random` and `plans`, of records that follow one another:
-name (8-bit length and that many bytes); lent records (16 bits); lent plan bytes
-(32 bits); k (8 bits); the old sheet and the new one, each behind its length (16
-bits).  Numbers are little-endian.  The names of random pairs are empty.  The
-pairs of `plans` are connected, and then their plans checked.  Two files,
+Four files, `inputs`, `random`, `settled` and `plans`, of records that follow one
+another: name (8-bit length and that many bytes); lent records (16 bits); lent
+plan bytes (32 bits); k (8 bits); the old sheet and the new one, each behind its
+length (16 bits).  Numbers are little-endian.  The names of random pairs are
+empty.  The pairs of `settled` are connected in both modes, with the same answer.
+The pairs of `plans` are connected, and then their plans checked.  Two files,
 `choosing` and `random-choosing`, are of the records that choosing_corpus.py
 has, two, `clients` and `random-clients`, of those of clients_corpus.py, and
 one, `random-plans`, of those of plans_corpus.py.  Every run writes the same
@@ -187,6 +188,29 @@ def inputs():
     yield from full_sheets()
 
 
+# Pairs connected in both modes.  Where the old contract may end in every state,
+# the second part of the settled test is asked wherever a message waits for the
+# service; the new one takes it.
+
+
+def may_end():
+    for count in (1, 2, 4):
+        every = every_action(4)
+        old = sheet(4, [state([0, every], [(s + j % 2) % count for j in range(8)]) for s in range(count)])
+        new = dense(4, count, lambda j: j // 2 % 2)
+        yield Input(f"dense, may end, {256 * count * count}", 1, old, new)
+
+
+def settled():
+    """Those above in which no situation tells the modes apart, of a family the
+    largest; and those whose old contract may end."""
+    apart = ("editor, payment first", "hundreds, all stay", "hundreds, no adapter")
+    largest = ("dense, 4096", "one state each, n 6", "ring, 4032", "wide ring, 4032")
+    yield from (one for one in (*editor(), *chosen()) if one.name not in apart)
+    yield from (one for one in (*every_buffer(), *rounds()) if one.name in largest)
+    yield from may_end()
+
+
 # Pairs whose plans are checked.  The rows of the last family have more and more
 # moves, all of which lead to the same state; nothing else changes.
 
@@ -235,6 +259,7 @@ def main(folder):
     for name, made in (
         ("inputs", inputs()),
         ("random", random_pairs()),
+        ("settled", settled()),
         ("plans", plans()),
         ("random-plans", plans_corpus.random_inputs()),
         ("clients", clients_corpus.inputs()),

@@ -1,11 +1,12 @@
 //! What is compared and timed: anything that connects.
 
 use crate::product::Product;
-use baseline::{Answer, Workspace};
+use baseline::{Answer, Mode, Workspace};
 
 /// The arguments of a call, the lent plan apart.
 #[derive(Clone, Copy)]
 pub struct Call<'a> {
+    pub mode: Mode,
     pub k: u8,
     pub old: &'a [u8],
     pub new: &'a [u8],
@@ -24,7 +25,7 @@ pub trait Connector {
 
 impl Connector for Workspace {
     fn connect(&mut self, call: &Call, plan: &mut [u8]) -> Answer {
-        Workspace::connect(self, call.k, call.old, call.new, call.records, plan)
+        Workspace::connect(self, call.mode, call.k, call.old, call.new, call.records, plan)
     }
 }
 

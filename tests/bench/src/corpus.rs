@@ -1,6 +1,7 @@
 //! The files of inputs that corpus.py writes, with choosing_corpus.py, clients_corpus.py and plans_corpus.py.
 
 use crate::connector::Call;
+use baseline::Mode;
 use std::path::Path;
 
 pub struct Input {
@@ -13,8 +14,8 @@ pub struct Input {
 }
 
 impl Input {
-    pub fn call(&self) -> Call<'_> {
-        Call { k: self.k, old: &self.old, new: &self.new, records: self.records }
+    pub fn call(&self, mode: Mode) -> Call<'_> {
+        Call { mode, k: self.k, old: &self.old, new: &self.new, records: self.records }
     }
 }
 

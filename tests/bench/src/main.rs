@@ -1,6 +1,6 @@
 //! `bench FOLDER` compares the connectors on all inputs of the folder, then times them on the benchmark's; the same for
-//! the conversion of choosing sheets, for the check of clients and for the check of plans. `bench FOLDER describe` says what
-//! the benchmark's inputs are.
+//! the settled mode, for the conversion of choosing sheets, for the check of clients and for the check of plans. `bench
+//! FOLDER describe` says what the benchmark's inputs are.
 
 mod choosing;
 mod clients;
@@ -8,9 +8,10 @@ mod connector;
 mod corpus;
 mod plans;
 mod product;
+mod settled;
 mod timing;
 
-use baseline::{Answer, LONGEST_PLAN};
+use baseline::{Answer, Mode, LONGEST_PLAN};
 use connector::{connectors, Connector};
 use corpus::Input;
 use std::hint::black_box;
@@ -22,22 +23,22 @@ const FILLING: u8 = 0xEE;
 
 /// What a connector makes of an input: its answer, every byte of the lent plan, and whether the lent records
 /// are as they are due.
-fn outcome(connector: &mut dyn Connector, input: &Input) -> (Answer, Vec<u8>, bool) {
+fn outcome(connector: &mut dyn Connector, mode: Mode, input: &Input) -> (Answer, Vec<u8>, bool) {
     let mut plan = vec![FILLING; input.room];
-    let (answer, due) = connector.tried(&input.call(), &mut plan);
+    let (answer, due) = connector.tried(&input.call(mode), &mut plan);
     (answer, plan, due)
 }
 
-/// The baseline's answers; stops the program where another connector differs.
-fn compared(connectors: &mut Connectors, inputs: &[Input]) -> Vec<Answer> {
+/// The baseline's answers in a mode; stops the program where another connector differs.
+fn compared(connectors: &mut Connectors, mode: Mode, inputs: &[Input]) -> Vec<Answer> {
     let mut answers = Vec::new();
     for (place, input) in inputs.iter().enumerate() {
         let (_, first) = &mut connectors[0];
-        let expected = outcome(first.as_mut(), input);
+        let expected = outcome(first.as_mut(), mode, input);
         for (who, connector) in &mut connectors[1..] {
-            let got = outcome(connector.as_mut(), input);
+            let got = outcome(connector.as_mut(), mode, input);
             if got != expected {
-                eprintln!("input {place} {:?}: {who} {:?}, the baseline {:?}", input.name, got.0, expected.0);
+                eprintln!("{mode:?}, input {place} {:?}: {who} {:?}, the baseline {:?}", input.name, got.0, expected.0);
                 eprintln!("plans alike: {}; records as due: {}", got.1 == expected.1, got.2);
                 std::process::exit(1);
             }
@@ -88,7 +89,7 @@ fn timed(connectors: &mut Connectors, inputs: &[Input], answers: &[Answer]) {
     let mut rows = Vec::new();
     for (input, answer) in inputs.iter().zip(answers) {
         let medians = timing::medians(connectors, |(_, connector)| {
-            black_box(connector.connect(black_box(&input.call()), &mut plan[..input.room]));
+            black_box(connector.connect(black_box(&input.call(Mode::Paper)), &mut plan[..input.room]));
         });
         print!("{:34} {}", input.name, figures(answer));
         for median in &medians {
@@ -106,10 +107,11 @@ fn timed(connectors: &mut Connectors, inputs: &[Input], answers: &[Answer]) {
 fn main() {
     let arguments: Vec<String> = std::env::args().skip(1).collect();
     let folder = Path::new(arguments.first().expect("a folder with the inputs"));
-    let (inputs, random) = (corpus::read(&folder.join("inputs")), corpus::read(&folder.join("random")));
-    let most = inputs.iter().chain(&random).map(|input| input.records).max().unwrap_or(0);
+    let [inputs, random, alike] = ["inputs", "random", "settled"].map(|name| corpus::read(&folder.join(name)));
+    let most = inputs.iter().chain(&random).chain(&alike).map(|input| input.records).max().unwrap_or(0);
     let mut connectors = connectors(most);
-    let answers = compared(&mut connectors, &inputs);
+    let answers = compared(&mut connectors, Mode::Paper, &inputs);
+    let settled = settled::compared(&mut connectors, &alike);
     let [choosing, random_choosing] = ["choosing", "random-choosing"].map(|name| corpus::choosing(&folder.join(name)));
     let converted = choosing::compared(&choosing);
     let [clients, random_clients] = ["clients", "random-clients"].map(|name| corpus::clients(&folder.join(name)));
@@ -120,13 +122,18 @@ fn main() {
         for (input, answer) in inputs.iter().zip(&answers) {
             println!("{:34} {}", input.name, figures(answer));
         }
+        settled::describe(&alike, &settled);
         choosing::describe(&choosing, &converted);
         clients::describe(&clients, &complying);
         plans::describe(&checked);
         return;
     }
-    compared(&mut connectors, &random);
+    compared(&mut connectors, Mode::Paper, &random);
     println!("compared: {} inputs, {} random pairs", inputs.len(), random.len());
+    for pairs in [&inputs, &random] {
+        compared(&mut connectors, Mode::Settled, pairs);
+    }
+    println!("compared settled: these, and {} inputs in both modes", alike.len());
     choosing::compared(&random_choosing);
     println!("compared: {} choosing sheets, {} random ones", choosing.len(), random_choosing.len());
     clients::compared(&random_clients);
@@ -135,6 +142,7 @@ fn main() {
     plans::compared(&random_plans);
     println!("compared: {} plans, {} random ones", checked.len(), random_plans.len());
     timed(&mut connectors, &inputs, &answers);
+    settled::timed(&mut connectors, &alike, &settled);
     choosing::timed(&choosing, &converted);
     clients::timed(&clients, &complying);
     plans::timed(&checked);

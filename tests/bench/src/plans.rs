@@ -3,7 +3,7 @@
 use crate::corpus::{Check, Input};
 use crate::{timing, FILLING};
 use ::product::{Lent, Table};
-use baseline::{Checker, Fault, Workspace, LONGEST_PLAN, MOST_SITUATIONS};
+use baseline::{Checker, Fault, Mode, Workspace, LONGEST_PLAN, MOST_SITUATIONS};
 use std::hint::black_box;
 
 /// The emitted plan of a pair, with as many records lent as the pair has situations, for connecting and for the check.
@@ -16,8 +16,9 @@ pub struct Emitted {
 
 impl Emitted {
     fn of(input: &Input) -> Emitted {
-        let (call, mut plan) = (input.call(), vec![FILLING; LONGEST_PLAN]);
-        let answer = Workspace::new(call.records).connect(call.k, call.old, call.new, call.records, &mut plan);
+        let (call, mut plan) = (input.call(Mode::Paper), vec![FILLING; LONGEST_PLAN]);
+        let mut workspace = Workspace::new(call.records);
+        let answer = workspace.connect(call.mode, call.k, call.old, call.new, call.records, &mut plan);
         assert_eq!(answer.number, 0, "{}: a plan", input.name);
         plan.truncate(answer.length as usize);
         let (old, new, records) = (call.old.to_vec(), call.new.to_vec(), answer.situations.into());
@@ -55,22 +56,22 @@ pub fn emitted(inputs: &[Input]) -> Vec<Emitted> {
 /// Number, sheet, state, counts and length of the check; and what is at fault.
 type Outcome = ([u32; 7], Fault);
 
-fn by_baseline(checker: &mut Checker, check: &Check) -> Outcome {
-    let Check { old, new, plan, records } = check;
-    let answer = checker.check(old, new, plan, *records);
+fn by_baseline(checker: &mut Checker, mode: u8, check: &Check) -> Outcome {
+    let (mode, Check { old, new, plan, records }) = (Mode::named(mode), check);
+    let answer = checker.check(mode, old, new, plan, *records);
     let figures = [answer.number, answer.sheet, answer.state].map(u32::from);
-    ([figures[0], figures[1], figures[2], 0, 0, 0, 0], checker.fault(old, new, plan, *records))
+    ([figures[0], figures[1], figures[2], 0, 0, 0, 0], checker.fault(mode, old, new, plan, *records))
 }
 
 /// The product's outcome, and whether the lent records are as they are due after each of the two calls.
-fn by_product(table: &mut Table, check: &Check, small: bool) -> (Outcome, bool) {
+fn by_product(table: &mut Table, mode: u8, check: &Check, small: bool) -> (Outcome, bool) {
     let Check { old, new, plan, records } = check;
     let lent = Lent { small, ..Lent::records(*records) };
     table.fill(&lent);
-    let answer = table.check_plan(&lent, old, new, plan);
+    let answer = table.check_plan(&lent, mode, old, new, plan);
     let due = table.is_as_due(&lent, answer.number);
     table.fill(&lent);
-    let fault = table.plan_fault(&lent, old, new, plan);
+    let fault = table.plan_fault(&lent, mode, old, new, plan);
     let both_due = due && table.is_as_due(&lent, answer.number);
     let [number, sheet, state] = [answer.number, answer.sheet, answer.state].map(u32::from);
     let counts = [answer.situations, answer.states, answer.rounds].map(u32::from);
@@ -86,19 +87,24 @@ fn by_product(table: &mut Table, check: &Check, small: bool) -> (Outcome, bool) 
     (([number, sheet, state, counts[0], counts[1], counts[2], answer.length], fault), both_due)
 }
 
-/// The baseline's numbers; stops the program where the product differs.
+/// The baseline's numbers in the paper's mode; stops the program where the product differs, in either mode.
 pub fn compared(checks: &[Check]) -> Vec<u32> {
     let most = checks.iter().map(|check| check.records).max().unwrap_or(0);
     let (mut checker, mut table) = (Checker::new(), Table::new(most.max(MOST_SITUATIONS)));
     let mut numbers = Vec::new();
     for (place, check) in checks.iter().enumerate() {
-        let expected = by_baseline(&mut checker, check);
-        let (got, due) = by_product(&mut table, check, place % 2 == 1);
-        if got != expected || !due {
-            eprintln!("check {place}: product {got:?}, the baseline {expected:?}; records as due: {due}");
-            std::process::exit(1);
-        }
-        numbers.push(expected.0[0]);
+        let [number, _] = [0, 1].map(|mode| {
+            let expected = by_baseline(&mut checker, mode, check);
+            let (got, due) = by_product(&mut table, mode, check, place % 2 == 1);
+            if got != expected || !due {
+                eprintln!(
+                    "check {place}, mode {mode}: product {got:?}, the baseline {expected:?}; records as due: {due}"
+                );
+                std::process::exit(1);
+            }
+            expected.0[0]
+        });
+        numbers.push(number);
     }
     numbers
 }
@@ -121,16 +127,16 @@ fn medians(one: &Emitted) -> [f64; 4] {
     let lent = Lent::records(*records);
     let mut contenders: [Contender; 4] = [
         Box::new(|| {
-            black_box(workspace.connect(k, black_box(old), new, *records, &mut first));
+            black_box(workspace.connect(Mode::Paper, k, black_box(old), new, *records, &mut first));
         }),
         Box::new(|| {
             black_box(connecting.connect(&lent, k, black_box(old), new, &mut second));
         }),
         Box::new(|| {
-            black_box(checker.check(black_box(old), new, plan, *records));
+            black_box(checker.check(Mode::Paper, black_box(old), new, plan, *records));
         }),
         Box::new(|| {
-            black_box(checking.check_plan(&lent, black_box(old), new, plan));
+            black_box(checking.check_plan(&lent, 0, black_box(old), new, plan));
         }),
     ];
     let times = timing::medians(&mut contenders, |contender| contender());

@@ -1,7 +1,7 @@
 //! The product as a connector.
 
 use crate::connector::{Call, Connector};
-use baseline::Answer;
+use baseline::{Answer, Mode};
 use product::{Lent, Table};
 
 /// The product, and a table to lend.
@@ -20,7 +20,11 @@ impl Product {
 
 impl Connector for Product {
     fn connect(&mut self, call: &Call, plan: &mut [u8]) -> Answer {
-        let answer = self.table.connect(&Lent::records(call.records), call.k, call.old, call.new, plan);
+        let (lent, Call { mode, k, old, new, .. }) = (Lent::records(call.records), *call);
+        let answer = match mode {
+            Mode::Paper => self.table.connect(&lent, k, old, new, plan),
+            Mode::Settled => self.table.connect_mode(&lent, 1, k, old, new, plan),
+        };
         Answer {
             number: answer.number,
             sheet: answer.sheet,
