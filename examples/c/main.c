@@ -1,6 +1,8 @@
 /*
  * Connects the pair M1 of document 01, prints the answer and the plan, steps the plan, checks a client of the old service, and converts a
- * choosing sheet. Then it checks the plan, strikes its move out, checks it again and says what is at fault.
+ * choosing sheet. Then it checks the plan, strikes its move out, checks it again and says what is at fault. Last it connects the pair M4 in
+ * both modes: the paper's gives a plan, which takes the client's message and never delivers it, the settled one none. So the plan does not
+ * pass when it is checked as a settled one.
  */
 #include <stdio.h>
 #include <string.h>
@@ -22,6 +24,32 @@ static const uint8_t new_sheet[] = {
     0x00, 0x00, 0x05, 0x00,             /* the index */
     0x08, 0x00, 0x02, 0x02, 0x00, 0xC5, /* the trailer */
 };
+
+/* The pair M4, over one name. The old service takes a and ends. */
+static const uint8_t m4_old_sheet[] = {
+    0x01, 0x01, 0x00, 0x01,             /* state 0: one ready set, with a; a leads to state 1 */
+    0x01, 0x00, 0x00,                   /* state 1: one ready set, with nothing */
+    0x00, 0x00, 0x04, 0x00,             /* the index */
+    0x07, 0x00, 0x02, 0x01, 0x00, 0xC5, /* the trailer: two states, one name */
+};
+
+/* The new service has ended from the start. */
+static const uint8_t m4_new_sheet[] = {
+    0x01, 0x00, 0x00,                   /* state 0: one ready set, with nothing */
+    0x00, 0x00,                         /* the index */
+    0x03, 0x00, 0x01, 0x01, 0x00, 0xC5, /* the trailer: one state, one name */
+};
+
+/* Two sheets, as connecting and checking take them. */
+struct pair {
+    const uint8_t *old_sheet;
+    size_t old_len;
+    const uint8_t *new_sheet;
+    size_t new_len;
+};
+
+static const struct pair m1 = {old_sheet, sizeof old_sheet, new_sheet, sizeof new_sheet};
+static const struct pair m4 = {m4_old_sheet, sizeof m4_old_sheet, m4_new_sheet, sizeof m4_new_sheet};
 
 /* A client of the old service: it sends a, and has then succeeded. */
 static const uint8_t client[] = {
@@ -144,30 +172,59 @@ static void print_fault(const struct adapter_fault *fault)
     case 3:
         printf("the row does not answer the new state's ready set %04X\n", (unsigned)fault->ready);
         break;
+    case 4:
+        printf("a message waits for the service, and the row has no move with it for its ready set %04X\n", (unsigned)fault->ready);
+        break;
     default:
         printf("nothing is at fault\n");
     }
 }
 
-/* Checks the plan with a record for each of its states, and says what is at fault if it does not hold. */
-static void check(uint32_t length, size_t states)
+/* Checks the plan in a mode, with a record for each of its states, and says what is at fault if it does not hold. */
+static void check(const char *name, uint8_t mode, const struct pair *pair, uint32_t length, size_t states)
 {
     struct adapter_answer answer =
-        adapter_check_plan(old_sheet, sizeof old_sheet, new_sheet, sizeof new_sheet, plan, length, work, states);
-    printf("check: number %u\n", (unsigned)answer.number);
+        adapter_check_plan(mode, pair->old_sheet, pair->old_len, pair->new_sheet, pair->new_len, plan, length, work, states);
+    printf("%s: number %u\n", name, (unsigned)answer.number);
     if (answer.number == ADAPTER_UNSOUND) {
         struct adapter_fault fault =
-            adapter_plan_fault(old_sheet, sizeof old_sheet, new_sheet, sizeof new_sheet, plan, length, work, states);
+            adapter_plan_fault(mode, pair->old_sheet, pair->old_len, pair->new_sheet, pair->new_len, plan, length, work, states);
         print_fault(&fault);
     }
+}
+
+/* Prints the number of an answer, with what it carries, and the counts. */
+static void print_answer(const struct adapter_answer *answer)
+{
+    printf("answer %u %u %u\n", (unsigned)answer->number, (unsigned)answer->sheet, (unsigned)answer->state);
+    printf("counts %u %u %u\n", (unsigned)answer->situations, (unsigned)answer->states, (unsigned)answer->rounds);
+}
+
+/* Connects M4 in a mode, with one message of each name and direction kept. */
+static struct adapter_answer connect_m4(const char *name, uint8_t mode)
+{
+    struct adapter_answer answer = adapter_connect_mode(mode, 1, m4.old_sheet, m4.old_len, m4.new_sheet, m4.new_len, work,
+                                                        sizeof work / sizeof work[0], plan, sizeof plan);
+    printf("%s\n", name);
+    print_answer(&answer);
+    return answer;
+}
+
+/* M4 in both modes. The second call is refused, so the first one's plan still stands there to be checked. */
+static void show_modes(void)
+{
+    struct adapter_answer answer = connect_m4("M4, the paper's mode", ADAPTER_PAPER);
+    print_plan("plan", answer.states);
+    connect_m4("M4, settled", ADAPTER_SETTLED);
+    check("check, the paper's mode", ADAPTER_PAPER, &m4, answer.length, answer.states);
+    check("check, settled", ADAPTER_SETTLED, &m4, answer.length, answer.states);
 }
 
 int main(void)
 {
     struct adapter_answer answer =
-        adapter_connect(0, old_sheet, sizeof old_sheet, new_sheet, sizeof new_sheet, work, sizeof work / sizeof work[0], plan, sizeof plan);
-    printf("answer %u %u %u\n", (unsigned)answer.number, (unsigned)answer.sheet, (unsigned)answer.state);
-    printf("counts %u %u %u\n", (unsigned)answer.situations, (unsigned)answer.states, (unsigned)answer.rounds);
+        adapter_connect(0, m1.old_sheet, m1.old_len, m1.new_sheet, m1.new_len, work, sizeof work / sizeof work[0], plan, sizeof plan);
+    print_answer(&answer);
     if (answer.number != ADAPTER_ACCEPTED) {
         return 1;
     }
@@ -186,9 +243,11 @@ int main(void)
     print_bytes(sheet, 0, converted.length, "\n");
 
     /* The plan as connecting wrote it, and with its only move struck out: then nobody takes the client's a. */
-    check(answer.length, answer.states);
+    check("check", ADAPTER_PAPER, &m1, answer.length, answer.states);
     uint32_t length = strike_out(answer.length, 0, 0);
     print_plan("struck out", answer.states);
-    check(length, answer.states);
+    check("check", ADAPTER_PAPER, &m1, length, answer.states);
+
+    show_modes();
     return 0;
 }
