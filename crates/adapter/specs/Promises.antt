@@ -1,4 +1,5 @@
--- Demand 3, what a no means, what a check of a plan says, and what converting says, in the words of the entry points' own contracts: what each ensures of its answer.
+-- Demand 3, what a no means, what a settled plan does, what a check of a plan says, and what converting says, in the words of the entry
+-- points' own contracts: what each ensures of its answer. The mode is the one that the entry point is told, or the paper's.
 -- Assumes nothing.
 use mathlib.Core.Path.{_≡_}
 use mathlib.Core.Bool.{true}
@@ -11,10 +12,11 @@ use Rattle.model.specs.Contract.{Contract, has}
 use Rattle.model.specs.Sheet.{Sheet, good, readSheet, contractIn}
 use Rattle.model.specs.Situation.{alike}
 use Rattle.model.specs.Plan.{readPlan, rowsIn, stepOf}
+use Rattle.model.specs.Test.{Mode, settled}
 use Rattle.model.specs.Connect.{connectOf}
 use Rattle.model.specs.Client.{compliesOf}
 use Rattle.model.specs.Run.{begin, Attempt, rowAtRun, runFrom, mostAlone, Standstill}
-use Rattle.model.specs.Demands.{Follows}
+use Rattle.model.specs.Demands.{Follows, Settles}
 use Rattle.why.specs.Demanding.{demanding}
 use Rattle.why.specs.Game.{Defeats}
 use Rattle.plan.specs.Step.{steppedOf}
@@ -49,35 +51,50 @@ pub record RunsByAnswers (k : ℕ) (client old : List ℕ) (user new : Contract)
 -- hang.
 abbrev pub EntryDemand-3 : Type 0
 EntryDemand-3 =
-    (k : ℕ) (old new : List ℕ) (answer : Answer) (work work′ : List Record) (plan plan′ : List ℕ) (client : List ℕ) (user : Sheet)
+    (mode : Mode) (k : ℕ) (old new : List ℕ) (answer : Answer) (work work′ : List Record) (plan plan′ : List ℕ) (client : List ℕ) (user : Sheet)
     (attempts : List Attempt)
-    → record { answer = answerOf answer; plan = plan′; work = work′ } ≡ connectOf blank k old new work plan → answer .number ≡ 0
+    → record { answer = answerOf answer; plan = plan′; work = work′ } ≡ connectOf blank mode k old new work plan → answer .number ≡ 0
     → readSheet client ≡ good user
     → RunsByAnswers k client old (user .contract) (contractIn new) (take (answer .length) plan′) attempts
+
+-- Whatever connecting ensured of an accepting answer in the settled mode: no run of the plan stands still, for whichever client, where the old
+-- state has an empty ready set and a message still waits for the service.
+abbrev pub EntrySettledRuns : Type 0
+EntrySettledRuns =
+    (k : ℕ) (old new : List ℕ) (answer : Answer) (work work′ : List Record) (plan plan′ : List ℕ) (user : Contract) (attempts : List Attempt)
+    → record { answer = answerOf answer; plan = plan′; work = work′ } ≡ connectOf blank settled k old new work plan → answer .number ≡ 0
+    → Settles k user (contractIn old) (contractIn new) (take (answer .length) plan′) attempts
 
 -- Whatever connecting ensured of an answer 12: the most demanding client that the old contract satisfies defeats every adapter.
 abbrev pub EntryRefusedForGood : Type 0
 EntryRefusedForGood =
-    (k : ℕ) (old new : List ℕ) (answer : Answer) (work work′ : List Record) (plan plan′ : List ℕ)
-    → record { answer = answerOf answer; plan = plan′; work = work′ } ≡ connectOf blank k old new work plan → answer .number ≡ 12
-    → Defeats (alike k) (contractIn old) (contractIn new) (demanding (contractIn old))
+    (mode : Mode) (k : ℕ) (old new : List ℕ) (answer : Answer) (work work′ : List Record) (plan plan′ : List ℕ)
+    → record { answer = answerOf answer; plan = plan′; work = work′ } ≡ connectOf blank mode k old new work plan → answer .number ≡ 12
+    → Defeats mode (alike k) (contractIn old) (contractIn new) (demanding mode (contractIn old))
 
 -- Whatever the check of a plan ensured of an accepting answer: the plan's runs do not hang, whoever wrote it.
 abbrev pub EntryAnyHand : Type 0
 EntryAnyHand =
-    (old new plan : List ℕ) (answer : Answer) (work work′ : List Record) (client : List ℕ) (user : Sheet) (attempts : List Attempt)
-    → record { answer = answerOf answer; work = work′ } ≡ checkPlanOf blank old new plan work → answer .number ≡ 0
+    (mode : Mode) (old new plan : List ℕ) (answer : Answer) (work work′ : List Record) (client : List ℕ) (user : Sheet) (attempts : List Attempt)
+    → record { answer = answerOf answer; work = work′ } ≡ checkPlanOf blank mode old new plan work → answer .number ≡ 0
     → readSheet client ≡ good user
     → RunsByAnswers (rankOf (readPlan plan)) client old (user .contract) (contractIn new) plan attempts
 
--- Whatever connecting ensured of an accepting answer and of the lent plan, and the check of that plan with a record per plan state ensured of
--- its answer: that answer is 0.
+-- Whatever the check of a plan told settled ensured of an accepting answer: the plan does the same as one that was connected settled.
+abbrev pub EntryAnyHandSettles : Type 0
+EntryAnyHandSettles =
+    (old new plan : List ℕ) (answer : Answer) (work work′ : List Record) (user : Contract) (attempts : List Attempt)
+    → record { answer = answerOf answer; work = work′ } ≡ checkPlanOf blank settled old new plan work → answer .number ≡ 0
+    → Settles (rankOf (readPlan plan)) user (contractIn old) (contractIn new) plan attempts
+
+-- Whatever connecting ensured of an accepting answer and of the lent plan, and the check of that plan in the same mode with a record per
+-- plan state ensured of its answer: that answer is 0.
 abbrev pub EntryOursPass : Type 0
 EntryOursPass =
-    (k : ℕ) (old new : List ℕ) (answer checked : Answer) (work work′ records records′ : List Record) (plan plan′ : List ℕ)
-    → record { answer = answerOf answer; plan = plan′; work = work′ } ≡ connectOf blank k old new work plan → answer .number ≡ 0
+    (mode : Mode) (k : ℕ) (old new : List ℕ) (answer checked : Answer) (work work′ records records′ : List Record) (plan plan′ : List ℕ)
+    → record { answer = answerOf answer; plan = plan′; work = work′ } ≡ connectOf blank mode k old new work plan → answer .number ≡ 0
     → answer .states ≤ length records
-    → record { answer = answerOf checked; work = records′ } ≡ checkPlanOf blank old new (take (answer .length) plan′) records
+    → record { answer = answerOf checked; work = records′ } ≡ checkPlanOf blank mode old new (take (answer .length) plan′) records
     → checked .number ≡ 0
 
 -- Whatever converting ensured of its answer and of the lent output says what it should of the choosing sheet's bytes.

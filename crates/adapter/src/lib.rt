@@ -1,10 +1,12 @@
 // The entry points for C and Rust: each hands its arguments on and its answer back. A slice passes as a pointer and then a length.
 ghost use mathlib.Core.Path.{_≡_};
+ghost use Rattle.model.specs.Test.{paper};
 ghost use Rattle.model.specs.Connect.{connectOf};
 ghost use Rattle.model.specs.Plan.{stepOf};
 ghost use Rattle.model.specs.Client.{compliesOf};
 ghost use Rattle.plan.specs.Step.{steppedOf};
 ghost use Rattle.comply.specs.Answer.{complianceOf};
+ghost use Rattle.moves.specs.Modes.{modeNumbered};
 ghost use Rattle.table.specs.Records.{blank};
 ghost use Rattle.connect.specs.Answers.{answerOf};
 ghost use Rattle.edits.specs.Check.{checkPlanOf, planFaultOf};
@@ -24,9 +26,25 @@ pub extern "C" fn adapter_connect(
     plan: &mut [u8],
 ) -> connect::Answer
     ensures outcome { λ r. ⌜ record { answer = answerOf r; plan = now (plan .exit); work = now (work .exit) }
-        ≡ connectOf blank k (now (old .entry)) (now (new .entry)) (now (work .entry)) (now (plan .entry)) ⌝ }
+        ≡ connectOf blank paper k (now (old .entry)) (now (new .entry)) (now (work .entry)) (now (plan .entry)) ⌝ }
 {
     connect::connect(k, old, new, work, plan)
+}
+
+// `connect::connect_mode`, in the mode that a number names.
+#[no_mangle]
+pub extern "C" fn adapter_connect_mode(
+    mode: u8,
+    k: u8,
+    old: &[u8],
+    new: &[u8],
+    work: &mut [table::Record],
+    plan: &mut [u8],
+) -> connect::Answer
+    ensures outcome { λ r. ⌜ record { answer = answerOf r; plan = now (plan .exit); work = now (work .exit) }
+        ≡ connectOf blank (modeNumbered mode) k (now (old .entry)) (now (new .entry)) (now (work .entry)) (now (plan .entry)) ⌝ }
+{
+    connect::connect_mode(moves::mode_of(mode), k, old, new, work, plan)
 }
 
 // `plan::step`.
@@ -45,32 +63,34 @@ pub extern "C" fn adapter_complies(client: &[u8], service: &[u8]) -> Compliance
     comply::complies(client, service)
 }
 
-// `check_plan::check_plan`.
+// `check_plan::check_plan`, in the mode that a number names.
 #[no_mangle]
 pub extern "C" fn adapter_check_plan(
+    mode: u8,
     old: &[u8],
     new: &[u8],
     plan: &[u8],
     work: &mut [table::Record],
 ) -> connect::Answer
     ensures outcome { λ r. ⌜ record { answer = answerOf r; work = now (work .exit) }
-        ≡ checkPlanOf blank (now (old .entry)) (now (new .entry)) (now (plan .entry)) (now (work .entry)) ⌝ }
+        ≡ checkPlanOf blank (modeNumbered mode) (now (old .entry)) (now (new .entry)) (now (plan .entry)) (now (work .entry)) ⌝ }
 {
-    check_plan::check_plan(old, new, plan, work)
+    check_plan::check_plan(moves::mode_of(mode), old, new, plan, work)
 }
 
-// `check_plan::plan_fault`.
+// `check_plan::plan_fault`, in the same mode.
 #[no_mangle]
 pub extern "C" fn adapter_plan_fault(
+    mode: u8,
     old: &[u8],
     new: &[u8],
     plan: &[u8],
     work: &mut [table::Record],
 ) -> edits_walk::Fault
     ensures outcome { λ r. ⌜ record { fault = faultBy r; work = now (work .exit) }
-        ≡ planFaultOf blank (now (old .entry)) (now (new .entry)) (now (plan .entry)) (now (work .entry)) ⌝ }
+        ≡ planFaultOf blank (modeNumbered mode) (now (old .entry)) (now (new .entry)) (now (plan .entry)) (now (work .entry)) ⌝ }
 {
-    check_plan::plan_fault(old, new, plan, work)
+    check_plan::plan_fault(moves::mode_of(mode), old, new, plan, work)
 }
 
 // `convert::convert`.

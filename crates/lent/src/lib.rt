@@ -1,6 +1,6 @@
 // Pairs connected with records and plan bytes lent, and what the call left of them, for the test program pair_cases. A case is the number
-// of lent records (16 bits), that of lent plan bytes (16 bits), and the connecting program's input: k, the first sheet behind its length,
-// and the second. Its line: number, sheet, state; situations, plan states, rounds; plan length; digest of the lent plan; lent records that
+// of lent records (16 bits), that of lent plan bytes (16 bits), the mode (0 the paper's, any other number settled), and the connecting
+// program's input: k, the first sheet behind its length, and the second. Its line: number, sheet, state; situations, plan states, rounds; plan length; digest of the lent plan; lent records that
 // are zero, and lent records that are as they were. The module plans has the like for edit_cases.
 mod left;
 mod plans;
@@ -9,6 +9,7 @@ ghost use mathlib.Core.Path.{_≡_};
 ghost use Prim.Native.Nat.{_≤_};
 ghost use lib.ListN.{length, replicate};
 ghost use Rattle.model.specs.Connect.{connectOf};
+ghost use Rattle.moves.specs.Modes.{modeOf};
 ghost use Rattle.table.specs.Records.{blank};
 ghost use Rattle.lent.specs.Gives.{before, Gives};
 use crate::left::count_records;
@@ -44,16 +45,17 @@ fn counted(answer: connect::Answer, zero: usize, same: usize) -> Outcome
 
 // Connects two sheets, and counts what became of the lent records, in which every number was 1.
 fn connect_lent(
+    mode: moves::Mode,
     k: u8,
     old: &[u8],
     new: &[u8],
     work: &mut [table::Record],
     plan: &mut [u8],
 ) -> Outcome
-    ensures { λ r. ⌜ Gives (connectOf blank k (now (old .entry)) (now (new .entry)) (now (work .entry)) (now (plan .entry)))
+    ensures { λ r. ⌜ Gives (connectOf blank (modeOf mode) k (now (old .entry)) (now (new .entry)) (now (work .entry)) (now (plan .entry)))
         r (now (plan .exit)) ⌝ }
 {
-    let answer = connect::connect(k, old, new, work, plan);
+    let answer = connect::connect_mode(mode, k, old, new, work, plan);
     let zero = count_records(work, 0);
     let same = count_records(work, 1);
     counted(answer, zero, same)
@@ -89,21 +91,21 @@ fn record_before() -> table::Record
 }
 
 // Lends so many records, of as many as the stored cases ask for.
-fn lend_records(k: u8, old: &[u8], new: &[u8], count: usize, plan: &mut [u8]) -> Outcome
+fn lend_records(mode: moves::Mode, k: u8, old: &[u8], new: &[u8], count: usize, plan: &mut [u8]) -> Outcome
     requires few { ⌜ count ≤ 5000 ⌝ }
-    ensures { λ r. ⌜ Gives (connectOf blank k (now (old .entry)) (now (new .entry)) (replicate count before) (now (plan .entry)))
+    ensures { λ r. ⌜ Gives (connectOf blank (modeOf mode) k (now (old .entry)) (now (new .entry)) (replicate count before) (now (plan .entry)))
         r (now (plan .exit)) ⌝ }
 {
     let y = record_before();
     let mut work = [y; 5000];
-    connect_lent(k, old, new, &mut work[..count], plan)
+    connect_lent(mode, k, old, new, &mut work[..count], plan)
 }
 
 // Lends so many records, and prints the line.
-fn print_case(k: u8, old: &[u8], new: &[u8], count: usize, plan: &mut [u8])
+fn print_case(mode: moves::Mode, k: u8, old: &[u8], new: &[u8], count: usize, plan: &mut [u8])
     requires { ⌜ count ≤ 5000 ⌝ }
 {
-    let outcome = lend_records(k, old, new, count, plan);
+    let outcome = lend_records(mode, k, old, new, count, plan);
     print_answer(outcome.answer);
     framing::print_figure(digest(plan));
     framing::print_figure(outcome.zero as u64);
@@ -118,16 +120,16 @@ fn plan_before() -> [u8; 65535]
 }
 
 // Lends so many records and so many plan bytes.
-fn lend(k: u8, old: &[u8], new: &[u8], count: usize, room: usize)
+fn lend(mode: moves::Mode, k: u8, old: &[u8], new: &[u8], count: usize, room: usize)
     requires { ⌜ (count ≤ 5000) × (room ≤ 65535) ⌝ }
 {
     let mut plan = plan_before();
-    print_case(k, old, new, count, &mut plan[..room]);
+    print_case(mode, k, old, new, count, &mut plan[..room]);
 }
 
 // Prints the line of a case.
 pub fn answer(case: &[u8]) {
-    if case.len() < 7 {
+    if case.len() < 8 {
         return;
     }
     let count = little_endian::word_at(case, 0) as usize;
@@ -135,8 +137,9 @@ pub fn answer(case: &[u8]) {
         return;
     }
     let room = little_endian::word_at(case, 2) as usize;
-    let end = framing::part_end(case, 5);
-    lend(case[4], &case[7..end], &case[end..], count, room);
+    let mode = moves::mode_of(case[4]);
+    let end = framing::part_end(case, 6);
+    lend(mode, case[5], &case[8..end], &case[end..], count, room);
 }
 
 // Prints the line of a case of a plan.
