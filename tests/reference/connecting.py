@@ -1,5 +1,6 @@
 """The connecting of two sheets: the whole answer, and what is lent
-afterwards (document 01, "Which pairs connect", "Refusals and their order")."""
+afterwards (document 01, "Which pairs connect", "Refusals and their order";
+document 02, request 5/13)."""
 
 from typing import NamedTuple
 
@@ -45,8 +46,9 @@ def read_two(first, second, roles):
     return contracts[0], contracts[1], None
 
 
-def connect(first, second, k, lent_plan, table):
-    """Connects the old contract's sheet with the new one's at rank k."""
+def connect(mode, first, second, k, lent_plan, table):
+    """Connects the old contract's sheet with the new one's at rank k, in the
+    paper's mode or the settled one."""
     lent_plan, table = bytes(lent_plan), list(table)
     old, new, refused = read_two(first, second, (SERVICE, SERVICE))
     if refused is None and k > MOST_RANK:
@@ -57,7 +59,7 @@ def connect(first, second, k, lent_plan, table):
     situations = reached(old, new, k, len(table))
     if situations is None:
         return Afterwards(Answer(11), lent_plan, cleared)
-    kept, rounds = kept_after_rounds(old, new, situations)
+    kept, rounds = kept_after_rounds(mode, old, new, situations)
     if START not in kept:
         answer = Answer(12, situations=len(situations), rounds=rounds)
         return Afterwards(answer, lent_plan, cleared)

@@ -1,8 +1,8 @@
 """Plans edited by hand, to be checked.
 
-A case is: number of lent records (16 bits); the old sheet and the new one,
-each behind its length (16 bits); the plan to the end.  Before each call no
-record of the work table is zero.
+A case is: number of lent records (16 bits); the mode (one byte); the old sheet
+and the new one, each behind its length (16 bits); the plan to the end.  Before
+each call no record of the work table is zero.
 
 Its line is, of the check: number, sheet, state; how many lent records are zero
 after it, and how many are as they were.  Then, of the fault, asked for with
@@ -16,16 +16,18 @@ from .connecting import ZERO_RECORD
 from .edit_edges import edges
 from .edit_limits import limits
 from .edit_random import random_edits
+from .edit_settled import settled_edges
+from .edit_settled_random import random_settled_edits
 from .edits import MARKED, parts
 from .plan_checks import check_plan
 
-SEED = 20100908
+SEED, SETTLED_SEED = 20100908, 20100910
 
 
 def called(data):
     """The call that a case describes."""
-    records, old, new, plan = parts(data)
-    return check_plan(old, new, plan, [MARKED] * records)
+    records, mode, old, new, plan = parts(data)
+    return check_plan(mode, old, new, plan, [MARKED] * records)
 
 
 def expected(data):
@@ -36,15 +38,30 @@ def expected(data):
 
 
 def group(data):
-    """The number, and for 21 the condition."""
+    """The number, the mode, and for 21 the condition."""
     answer, fault, _ = called(data)
-    return f"{answer.number:2} condition {fault.condition}" if answer.number == 21 else f"{answer.number:2}"
+    mode = parts(data)[1].name.lower()
+    condition = f" condition {fault.condition}" if answer.number == 21 else ""
+    return f"{answer.number:2} {mode}{condition}"
+
+
+def paper_cases():
+    """Every edge and limit, then random edits."""
+    yield from edges()
+    yield from limits()
+    yield from random_edits(Chance(SEED))
+
+
+def settled_cases():
+    """The same in the settled mode, some of them in the paper's too."""
+    yield from settled_edges()
+    yield from random_settled_edits(Chance(SETTLED_SEED))
 
 
 def cases():
-    """Every edge and limit, then random edits; no case twice."""
+    """The paper's mode, then the settled one; no case twice."""
     seen = set()
-    for case in (*edges(), *limits(), *random_edits(Chance(SEED))):
+    for case in (*paper_cases(), *settled_cases()):
         if case.data not in seen:
             seen.add(case.data)
             yield case

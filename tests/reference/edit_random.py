@@ -1,20 +1,21 @@
 """Random pairs, and random edits of the plans that they are given."""
 
 from .edits import MARKED, codes_missing, codes_over, emitted, framed, moves_in, with_move, with_row, without_move
-from .pair_cases import small_pair
+from .pairs import small_pair
 from .plan_checks import check_plan, read_all, reached_pairs
 from .plans import Plan, write_plan
+from .relation import PAPER
 from .sheet_random import changed, lengthened, shortened, untidy_sheet
 from .sheets import write_sheet
 
 MOST_ROWS = 30
 
 
-def system(chance, least=2):
+def system(chance, least=2, mode=PAPER, pair=small_pair):
     """Two contracts and the plan that connects them, of some states."""
     while True:
-        old, new = small_pair(chance)
-        plan = emitted(old, new, chance.below(4))
+        old, new = pair(chance)
+        plan = emitted(old, new, chance.below(4), mode=mode)
         if plan is not None and least <= len(plan.rows) <= MOST_ROWS:
             return old, new, plan
 
@@ -89,9 +90,15 @@ def edited(chance, plan):
 
 def pairs_of(old, new, plan):
     """How many pairs there are; None if no pairs are counted, or too many."""
-    checked, refused = read_all(write_sheet(old), write_sheet(new), write_plan(plan))
+    checked, refused = read_all(PAPER, write_sheet(old), write_sheet(new), write_plan(plan))
     found = None if refused is not None else reached_pairs(checked, 300)
     return None if found is None else len(found)
+
+
+def number_of(mode, old, new, plan, records=300):
+    """What the check answers."""
+    sheets = write_sheet(old), write_sheet(new)
+    return check_plan(mode, *sheets, write_plan(plan), [MARKED] * records).answer.number
 
 
 def as_emitted(chance):
@@ -135,7 +142,7 @@ def struck_too_many(chance):
         before = plan
         while plan.rows != [[]] * len(plan.rows):
             before, plan = plan, strike(chance, plan)
-            if check_plan(write_sheet(old), write_sheet(new), write_plan(plan), [MARKED] * 300).answer.number == 21:
+            if number_of(PAPER, old, new, plan) == 21:
                 found += 1
                 yield framed(f"holds {found}", old, new, before)
                 yield framed(f"one move less {found}", old, new, plan)
@@ -152,8 +159,7 @@ def still_sound(chance):
             other = chance.pick((strike, strike, split_state, redirect, add))(chance, plan)
             if other == plan:
                 continue
-            checked = check_plan(write_sheet(old), write_sheet(new), write_plan(other), [MARKED] * 60)
-            if checked.answer.number == 0:
+            if number_of(PAPER, old, new, other, 60) == 0:
                 plan = other
                 found += 1
                 if found % 3 == 0:

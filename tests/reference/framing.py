@@ -3,6 +3,8 @@ each as a 16-bit length and that many bytes."""
 
 from typing import NamedTuple
 
+from .relation import PAPER, SETTLED
+
 
 class Framed(NamedTuple):
     """A case: what it is about, and its bytes."""
@@ -18,6 +20,11 @@ def number_bytes(number, width=2):
 def measured(data):
     """The bytes behind their length."""
     return number_bytes(len(data)) + data
+
+
+def mode_of(byte):
+    """0 is the paper's mode, any other number the settled one."""
+    return PAPER if byte == 0 else SETTLED
 
 
 def packed(cases):

@@ -1,9 +1,10 @@
 """Pairs to be connected.
 
-A case is: number of lent records (16 bits), lent plan bytes (16 bits), then
-the connecting program's input: k (one byte), the first sheet's length (16
-bits), that sheet, and the second to the end.  Before the call every byte of
-the lent plan is EE hex and no record of the work table is zero.
+A case is: number of lent records (16 bits), lent plan bytes (16 bits), the
+mode (one byte), then the connecting program's input: k (one byte), the first
+sheet's length (16 bits), that sheet, and the second to the end.  Before the
+call every byte of the lent plan is EE hex and no record of the work table is
+zero.
 
 Its line is: number, sheet, state; situations, plan states, rounds; the plan's
 length; the digest of the whole lent plan after the call; how many lent
@@ -13,30 +14,24 @@ records are zero after it, and how many are as they were.
 from .cases import CASES
 from .chance import Chance
 from .connecting import ZERO_RECORD, connect
-from .framing import Framed, digest, measured, number_bytes
-from .moves import Situation
-from .random_contracts import Shape, random_contract, resembling
+from .framing import digest, mode_of
+from .pair_settled import settled_pairs
+from .pair_settled_random import random_settled_pairs
+from .pairs import MARKED, RECORDS, ROOM, framed, small_shape, small_sheets
+from .random_contracts import random_contract
+from .relation import PAPER
 from .sheet_random import careless_sheet, changed, untidy_sheet
 from .sheets import CLIENT, SERVICE, Contract, state, write_sheet
 
-SEED = 20100902
+SEED, SETTLED_SEED = 20100902, 20100909
 FILLING = 0xEE
-MARKED = Situation((1,) * 14, 1, 1)
-
-#: What most cases lend: more situations than most of the pairs have.
-RECORDS, ROOM = 300, 20000
-
-
-def framed(label, first, second, k, records=RECORDS, room=ROOM):
-    data = number_bytes(records) + number_bytes(room) + bytes([k]) + measured(first) + second
-    return Framed(label, data)
 
 
 def called(data):
     """The call that a case describes."""
     records, room = (int.from_bytes(data[at : at + 2], "little") for at in (0, 2))
-    behind = 7 + int.from_bytes(data[5:7], "little")
-    return connect(data[7:behind], data[behind:], data[4], bytes([FILLING]) * room, [MARKED] * records)
+    mode, k, behind = mode_of(data[4]), data[5], 8 + int.from_bytes(data[6:8], "little")
+    return connect(mode, data[8:behind], data[behind:], k, bytes([FILLING]) * room, [MARKED] * records)
 
 
 def expected(data):
@@ -46,28 +41,9 @@ def expected(data):
 
 
 def group(data):
-    """The number, and for a pair that was decided its k."""
-    number = called(data).answer.number
-    return f"{number:2} k {data[4]}" if number in (0, 12) else f"{number:2}"
-
-
-def small_shape(chance, n=None):
-    names = chance.pick([0, 1, 1, 2, 2, 2, 3, 3]) if n is None else n
-    return Shape(names, chance.between(1, 5), chance.between(1, 3), chance.between(1, 3), 5)
-
-
-def small_pair(chance):
-    """Two contracts over the same names, for two in three alike."""
-    shape = small_shape(chance)
-    old = random_contract(chance, shape, SERVICE)
-    if chance.one_in(3):
-        return old, random_contract(chance, shape, SERVICE)
-    return old, resembling(chance, shape, old)
-
-
-def small_sheets(chance):
-    old, new = small_pair(chance)
-    return write_sheet(old), write_sheet(new)
+    """The number, the mode, and for a pair that was decided its k."""
+    number, mode = called(data).answer.number, mode_of(data[4]).name.lower()
+    return f"{number:2} {mode} k {data[5]}" if number in (0, 12) else f"{number:2} {mode}"
 
 
 def named_cases():
@@ -83,7 +59,7 @@ def limits(chance):
     while found < 60:
         first, second = small_sheets(chance)
         k = chance.below(4)
-        answer = connect(first, second, k, bytes(ROOM), [MARKED] * RECORDS).answer
+        answer = connect(PAPER, first, second, k, bytes(ROOM), [MARKED] * RECORDS).answer
         if answer.number not in (0, 12) or answer.situations < 2:
             continue
         found += 1
@@ -145,7 +121,7 @@ def decided(chance):
         left = dict(WANTED)
         while any(left.values()):
             first, second = small_sheets(chance)
-            kind = kind_of(connect(first, second, k, bytes(ROOM), [MARKED] * RECORDS).answer)
+            kind = kind_of(connect(PAPER, first, second, k, bytes(ROOM), [MARKED] * RECORDS).answer)
             if left.get(kind, 0) > 0:
                 left[kind] -= 1
                 yield framed(f"{kind}, k {k}", first, second, k)
@@ -162,7 +138,7 @@ def untidy(chance):
         yield framed(f"two untidy sheets {i}", untidy_sheet(chance), untidy_sheet(chance), chance.below(5))
 
 
-def cases():
+def paper_cases():
     chance = Chance(SEED)
     yield from named_cases()
     yield from many_situations()
@@ -170,3 +146,16 @@ def cases():
     yield from refused(chance)
     yield from decided(chance)
     yield from untidy(chance)
+
+
+def cases():
+    """The paper's mode, then the settled one with some pairs in both; of the
+    latter no case twice."""
+    seen = set()
+    for case in paper_cases():
+        seen.add(case.data)
+        yield case
+    for case in (*settled_pairs(), *random_settled_pairs(Chance(SETTLED_SEED))):
+        if case.data not in seen:
+            seen.add(case.data)
+            yield case

@@ -1,9 +1,11 @@
-"""The connecting program's input and print (document 01, "Cases")."""
+"""The connecting program's input and print (document 01, "Cases"); it
+connects in the paper's mode."""
 
 import sys
 
 from .connecting import ZERO_RECORD, Answer, connect
 from .plans import read_plan
+from .relation import PAPER
 
 MOST_INPUT = 8192
 RECORDS = 1024
@@ -26,7 +28,8 @@ def printed(data):
         answer, rows = Answer(1, 1), []
     else:
         behind = 3 + int.from_bytes(data[1:3], "little")
-        after = connect(data[3:behind], data[behind:], data[0], bytes(PLAN_ROOM), [ZERO_RECORD] * RECORDS)
+        sheets = data[3:behind], data[behind:]
+        after = connect(PAPER, *sheets, data[0], bytes(PLAN_ROOM), [ZERO_RECORD] * RECORDS)
         answer = after.answer
         rows = read_plan(after.plan[: answer.plan_length]).rows if answer.number == 0 else []
     return "".join(line + "\n" for line in lines(answer, rows))

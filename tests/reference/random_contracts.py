@@ -45,6 +45,17 @@ def random_contract(chance, shape, role):
     return Contract(shape.n, role, tuple(states))
 
 
+def may_end(chance, contract):
+    """The contract with the empty ready set added in about one state of six."""
+    states = [
+        row._replace(ready=tuple(sorted({0, *row.ready})))
+        if chance.one_in(6) and len(row.ready) < MOST_READY
+        else row
+        for row in contract.states
+    ]
+    return contract._replace(states=tuple(states))
+
+
 def changed_state(chance, shape, row, count):
     """The state with a ready set more or less, or another successor."""
     ready, successor = set(row.ready), dict(row.successor)

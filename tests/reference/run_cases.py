@@ -16,9 +16,10 @@ from .compliance import complies
 from .connecting import connect
 from .framing import Framed, measured, number_bytes
 from .moves import CODES
-from .pair_cases import MARKED, RECORDS, ROOM, small_shape
+from .pairs import MARKED, RECORDS, ROOM, small_shape
 from .plans import read_plan
 from .random_contracts import mirrored, random_contract, resembling
+from .relation import PAPER
 from .runs import Attempt, run
 from .sheets import CLIENT, SERVICE, read_sheet, write_sheet
 
@@ -77,7 +78,8 @@ def small_system(chance):
         new = resembling(chance, shape, old)
         stranger = chance.one_in(3)
         client = random_contract(chance, shape, CLIENT) if stranger else mirrored(old, chance)
-        after = connect(write_sheet(old), write_sheet(new), chance.below(4), bytes(ROOM), [MARKED] * RECORDS)
+        sheets = write_sheet(old), write_sheet(new)
+        after = connect(PAPER, *sheets, chance.below(4), bytes(ROOM), [MARKED] * RECORDS)
         if after.answer.number == 0 and 2 <= after.answer.plan_states <= 60 and (stranger or complies(client, old)):
             return write_sheet(client), write_sheet(new), after.plan[: after.answer.plan_length]
 

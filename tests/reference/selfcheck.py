@@ -27,13 +27,14 @@ from .moves import START, Situation, enabled
 from .noise_selfcheck import MasksWithNoise
 from .plans import Plan, read_plan, step, write_plan
 from .program import printed
-from .random_contracts import Shape, mirrored, random_contract, resembling
-from .relation import kept_after_rounds, passes, reached
+from .random_contracts import Shape, may_end, mirrored, random_contract, resembling
+from .relation import PAPER, kept_after_rounds, passes, reached
 from .runs import At, Attempt, run
+from .settled_selfcheck import Settled
 from .sheets import CLIENT, SERVICE, Contract, Refusal, offered, read_sheet, state, write_sheet
 
 #: Checked with the rest.
-OTHERS = ChoosingSheets, HiddenChoices, NoCircle, Reading, MasksWithNoise, PlansByHand
+OTHERS = ChoosingSheets, HiddenChoices, NoCircle, Reading, MasksWithNoise, PlansByHand, Settled
 
 MARKED = Situation((9,) * 14, 9, 9)
 
@@ -48,7 +49,7 @@ def client(n, states):
 
 def answer_of(n, old, new, k, records=5000, room=400000):
     first, second = write_sheet(service(n, old)), write_sheet(service(n, new))
-    return connect(first, second, k, bytes(room), [MARKED] * records).answer
+    return connect(PAPER, first, second, k, bytes(room), [MARKED] * records).answer
 
 
 def figures(answer):
@@ -76,7 +77,7 @@ class Cases(unittest.TestCase):
     def test_first_case_whole(self):
         old, new = (write_sheet(contract) for contract in CASES[0].contracts())
         self.assertEqual((old, new), (M1_OLD, M1_NEW))
-        after = connect(M1_OLD, M1_NEW, 0, b"\xee" * 40, [MARKED] * 3)
+        after = connect(PAPER, M1_OLD, M1_NEW, 0, b"\xee" * 40, [MARKED] * 3)
         self.assertEqual(after.answer, Answer(0, 0, 0, 2, 2, 0, 21))
         self.assertEqual(after.plan, M1_PLAN + b"\xee" * 19)
         self.assertEqual(after.table, [ZERO_RECORD] * 3)
@@ -86,7 +87,7 @@ class Cases(unittest.TestCase):
         old, new = (write_sheet(contract) for contract in CASES[12].contracts())
         rows = hexed("01 12 0100  02 00 0200 10 0300  01 22 0400  01 20 0200  00")
         index = hexed("00000000 04000000 0B000000 0F000000 13000000")
-        after = connect(old, new, 1, bytes(48), [MARKED] * 5)
+        after = connect(PAPER, old, new, 1, bytes(48), [MARKED] * 5)
         self.assertEqual(after.plan, rows + index + hexed("14000000 0500 03 01"))
 
 
@@ -181,18 +182,18 @@ class Connecting(unittest.TestCase):
             (M1_OLD, M1_NEW, 4, 0, Answer(10)),
             (M1_OLD, M1_NEW, 3, 0, Answer(11)),
         ]:
-            after = connect(first, second, k, b"\xee" * 99, [MARKED] * records)
+            after = connect(PAPER, first, second, k, b"\xee" * 99, [MARKED] * records)
             self.assertEqual(after.answer, expected)
             self.assertEqual(after.plan, b"\xee" * 99)
 
     def test_what_is_lent(self):
         for k, records, room, number in ((4, 3, 99, 10), (0, 1, 99, 11), (0, 2, 20, 13), (0, 2, 21, 0)):
-            after = connect(M1_OLD, M1_NEW, k, b"\xee" * room, [MARKED] * records)
+            after = connect(PAPER, M1_OLD, M1_NEW, k, b"\xee" * room, [MARKED] * records)
             self.assertEqual(after.answer.number, number)
             self.assertEqual(after.table, [MARKED if number == 10 else ZERO_RECORD] * records)
             self.assertEqual(after.plan, M1_PLAN if number == 0 else b"\xee" * room)
         self.assertEqual(
-            connect(M1_OLD, M1_NEW, 0, bytes(20), [MARKED] * 2).answer, Answer(13, 0, 0, 2, 2, 0, 0)
+            connect(PAPER, M1_OLD, M1_NEW, 0, bytes(20), [MARKED] * 2).answer, Answer(13, 0, 0, 2, 2, 0, 0)
         )
 
     def test_buffers_are_counted(self):
@@ -229,7 +230,7 @@ class Connecting(unittest.TestCase):
         new = either(A, B)
         answer = answer_of(2, old, new, 0)
         self.assertEqual(figures(answer), (0, (3, 2, 1)))
-        after = connect(write_sheet(service(2, old)), write_sheet(service(2, new)), 0, bytes(99), [MARKED] * 9)
+        after = connect(PAPER, write_sheet(service(2, old)), write_sheet(service(2, new)), 0, bytes(99), [MARKED] * 9)
         self.assertEqual(read_plan(after.plan[:21]), Plan(2, 0, [[(1, 1)], []]))
 
     def test_kept_is_the_union_of_all_relations(self):
@@ -249,6 +250,8 @@ class Connecting(unittest.TestCase):
                 chosen = {situation for i, situation in enumerate(numbered) if choice >> i & 1}
                 if all(
                     passes(
+                        PAPER,
+                        situation.buffer,
                         old.states[situation.old].ready,
                         new.states[situation.new].ready,
                         {code for code, after in situations[situation].items() if after in chosen},
@@ -256,7 +259,7 @@ class Connecting(unittest.TestCase):
                     for situation in chosen
                 ):
                     union |= chosen
-            self.assertEqual(kept_after_rounds(old, new, situations)[0], union)
+            self.assertEqual(kept_after_rounds(PAPER, old, new, situations)[0], union)
 
 
 class Moves(unittest.TestCase):
@@ -361,7 +364,7 @@ class Runs(unittest.TestCase):
         c, a = mask_of(send(C)), mask_of(send(A))
         user = client(3, [state([c], [1]), state([a], [2]), done])
         old, new = CASES[12].contracts()
-        plan = read_plan(connect(write_sheet(old), write_sheet(new), 1, bytes(48), [MARKED] * 5).plan)
+        plan = read_plan(connect(PAPER, write_sheet(old), write_sheet(new), 1, bytes(48), [MARKED] * 5).plan)
         attempts = [
             Attempt(c, 1, 0),  # not in the row
             Attempt(a, 1, 18),  # no choice
@@ -406,7 +409,7 @@ class Runs(unittest.TestCase):
             old = random_contract(chance, shape, SERVICE)
             new, k = resembling(chance, shape, old), chance.below(4)
             user = mirrored(old, chance)
-            after = connect(write_sheet(old), write_sheet(new), k, bytes(99999), [MARKED] * 500)
+            after = connect(PAPER, write_sheet(old), write_sheet(new), k, bytes(99999), [MARKED] * 500)
             if after.answer.number != 0 or not complies(user, old):
                 continue
             connected += 1
@@ -427,15 +430,6 @@ class Runs(unittest.TestCase):
         self.assertGreater(longest, 1)
 
 
-def may_end(chance, contract):
-    """The contract with the empty ready set added in about one state of six."""
-    states = [
-        row._replace(ready=tuple(sorted({0, *row.ready}))) if chance.one_in(6) else row
-        for row in contract.states
-    ]
-    return contract._replace(states=tuple(states))
-
-
 def small_pairs(chance, count):
     """So many pairs with few situations, for one in two alike: their shape, old, new, k, and the
     situations that are kept."""
@@ -449,7 +443,7 @@ def small_pairs(chance, count):
         situations = reached(old, new, k, 30)
         if situations is not None:
             found += 1
-            yield shape, old, new, k, kept_after_rounds(old, new, situations)[0]
+            yield shape, old, new, k, kept_after_rounds(PAPER, old, new, situations)[0]
 
 
 def clients_for(chance, shape, old):

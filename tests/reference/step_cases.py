@@ -9,8 +9,9 @@ from .chance import Chance
 from .connecting import connect
 from .framing import Framed, number_bytes
 from .moves import CODES
-from .pair_cases import MARKED, RECORDS, ROOM, small_sheets
+from .pairs import MARKED, RECORDS, ROOM, small_sheets
 from .plans import MOST_MOVES, Plan, read_plan, step, write_plan
+from .relation import PAPER
 
 SEED = 20100903
 
@@ -32,7 +33,7 @@ def emitted_plan(chance, most=40):
     """An emitted plan of at most so many states."""
     while True:
         first, second = small_sheets(chance)
-        after = connect(first, second, chance.below(4), bytes(ROOM), [MARKED] * RECORDS)
+        after = connect(PAPER, first, second, chance.below(4), bytes(ROOM), [MARKED] * RECORDS)
         if after.answer.number == 0 and 2 <= after.answer.plan_states <= most:
             return after.plan[: after.answer.plan_length]
 
