@@ -239,6 +239,8 @@ def order_of_faults():
         ("4 and 2", ends_by_a, silent, [taken, [(TAKE_B, 1)], *more]),
         ("4 and 2, straight", ends_by_a, takes_b, [taken, [(B, 1)], *more]),
         ("4 before 3", ends_by_a, silent, [taken, [], []]),
+        ("4 before 1", ends_by_a, silent, [taken, [], [(HAND_A, 3)], []]),
+        ("4 before 2", ends_by_a, silent, [taken, [], [(TAKE_A, 3)], []]),
         ("3 before 4", ends_by_b, silent, [taken, [], []]),
         ("4 before 3 in one plan state", ends_by_a, silent, [[(TAKE_A, 1), (TAKE_B, 1)], []]),
         ("3 before 4 in one plan state", ends_by_b, silent, [[(TAKE_A, 1), (TAKE_B, 1)], []]),
