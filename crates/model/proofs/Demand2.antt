@@ -14,12 +14,12 @@ use borrow.Author.Tests.{leb-true}
 use Rattle.model.specs.Contract.{Contract}
 use Rattle.model.specs.Sheet.{Reading, good, refusal, Refusal, plain, Both, readBoth}
 use Rattle.model.specs.Situation.{Situation, start, alike, same, codes, next}
-use Rattle.model.specs.Test.{Mode, test}
+use Rattle.model.specs.Test.{Mode, paper, settled, isSettled, test}
 use Rattle.model.specs.Search.{Search, searchFrom}
 use Rattle.model.specs.Plan.{planBytes, rowsIn}
 use Rattle.model.specs.Connect.{Answer, Outcome, refused, counted, siftedOf, rowsFor, connected, limitOf, ranked, outcomeOf, connectOf}
-use Rattle.model.specs.Weak.{AsksAt}
-use Rattle.model.specs.Demands.{emittedPlan, Admitted, ReachedCount, HoldsLargest, outcome, number, StartRelated, Decides, Demand-2}
+use Rattle.model.specs.Weak.{AsksAt, IsWeak}
+use Rattle.model.specs.Demands.{emittedPlan, Admitted, ReachedCount, HoldsLargest, outcome, number, StartRelated, Decides, Demand-2, SettledRefuses}
 use Rattle.model.proofs.Lists.{cond-yes}
 use Rattle.model.proofs.Sheet.{WellFormed, both-well-formed}
 use Rattle.model.proofs.Test.{Computes, mode-computes}
@@ -241,3 +241,34 @@ pub demand-2 : Demand-2
 demand-2 R blank mode k old new sheets work plan a =
     decides blank mode k old new sheets work a plan
     (shape k (sheets .one) (sheets .two) (limitOf (length work)) (test mode (sheets .one) (sheets .two)) (length plan))
+
+-- ---- the settled mode refuses what the paper's does
+
+module _ (limits : List ℕ) (σ τ : Contract) where
+  -- a relation that the settled mode asks for is one of definition 3.7
+  weaker : (W : Situation → Type 0) → IsWeak limits σ τ (AsksAt settled σ τ) W → IsWeak limits σ τ (AsksAt paper σ τ) W
+  unfolding isSettled
+  weaker W f s w =
+      let x = f s w in
+      record {
+        rank = x .rank;
+        acts = x .acts;
+        client-enabled = x .client-enabled;
+        service-enabled = x .service-enabled;
+        passes = record { passes = x .passes .passes; delivers = λ none. absurd none };
+        straight-leads = x .straight-leads;
+        client-leads = x .client-leads;
+        service-leads = x .service-leads;
+      }
+
+pub settled-refuses : SettledRefuses
+unfolding connectOf
+settled-refuses R blank k old new work plan z =
+    let a = answer-admitted paper (length work) (length plan) k old new (λ l h. absurd (omega (arith, z, h))) in
+    let sheets = a .0 in
+    let ours = demand-2 R blank paper k old new sheets work plan (a .1) in
+    let theirs = demand-2 R blank settled k old new sheets work plan (a .1) in
+    let not-11 : (number blank paper k old new sheets work plan ≡ 11) → ⊥ = (λ e. absurd (omega (arith, z, e))) in
+    let none-holds = ours .refuses not-11 .0 z in
+    theirs .refuses (λ e. not-11 (ours .capacity .1 (theirs .capacity .0 e))) .1
+    (λ r. none-holds (r .0, weaker (alike k) (sheets .one) (sheets .two) (r .0) (r .1), r .2))

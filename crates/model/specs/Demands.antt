@@ -1,6 +1,6 @@
--- What is promised: the three demands, what a yes of the client check means, and what a settled plan does, as types. They are proved by
--- `demand-1`, `demand-2`, `demand-3`, `client-check` and `settled-runs` of proofs/Demand1.antt, Demand2.antt, Demand3.antt, ClientCheck.antt;
--- the last stands in Demand3.antt too. A demand's own words stand above its type; other words in quotation marks are document 01's, or those of the request
+-- What is promised: the three demands, what a yes of the client check means, and what the settled mode does, as types. They are proved by
+-- `demand-1`, `demand-2`, `demand-3` and `client-check` of proofs/Demand1.antt, Demand2.antt, Demand3.antt and ClientCheck.antt, and by
+-- `settled-runs` and `settled-refuses` of Demand3 and Demand2. A demand's own words stand above its type; other words in quotation marks are document 01's, or those of the request
 -- of document 02 that is named.
 -- Assumes nothing.
 use mathlib.Core.Path.{_≡_}
@@ -15,7 +15,7 @@ use Rattle.model.specs.Lists.{Distinct}
 use Rattle.model.specs.Contract.{Contract, has, state}
 use Rattle.model.specs.Sheet.{Sheet, good, Both, readSheet, readBoth, contractIn}
 use Rattle.model.specs.Situation.{Situation, start, alike, codes, next}
-use Rattle.model.specs.Test.{Mode, settled}
+use Rattle.model.specs.Test.{Mode, paper, settled}
 use Rattle.model.specs.Search.{Reached}
 use Rattle.model.specs.Plan.{Move, held, rowsIn, Stepped, stepOf}
 use Rattle.model.specs.Connect.{Connected, limitOf, connectOf}
@@ -213,3 +213,9 @@ SettledRuns =
     (R : Type 0) (blank : R) (k : ℕ) (old new : List ℕ) (work : List R) (plan : List ℕ) (user : Contract) (attempts : List Attempt)
     → connectOf blank settled k old new work plan .answer .number ≡ 0
     → Settles k user (contractIn old) (contractIn new) (emittedPlan (connectOf blank settled k old new work plan)) attempts
+
+-- What is refused as 12 in the paper's mode is refused as 12 in the settled one: its relations are among those of definition 3.7.
+abbrev pub SettledRefuses : Type 1
+SettledRefuses =
+    (R : Type 0) (blank : R) (k : ℕ) (old new : List ℕ) (work : List R) (plan : List ℕ)
+    → connectOf blank paper k old new work plan .answer .number ≡ 12 → connectOf blank settled k old new work plan .answer .number ≡ 12
