@@ -12,6 +12,7 @@ use lib.ListN.{length}
 use lib.Dec.{T, eqb, eqb→eq}
 use borrow.Author.Tests.{ne-eqb}
 use Rattle.model.specs.Sheet.{Reading, good, refusal, Refusal, plain, Both, readBoth}
+use Rattle.model.specs.Test.{Mode}
 use Rattle.model.specs.Plan.{Plan, readPlan}
 use Rattle.model.specs.Connect.{limitOf, refused}
 use Rattle.model.proofs.Lists.{or-cases, cond-yes, cond-no}
@@ -25,12 +26,12 @@ use Rattle.edits.proofs.Decides.{AfterPairs, walk-number}
 abbrev OfTable : ℕ → Type 0
 OfTable number = (number ≤ 9) ⊎ ((number ≡ 11) ⊎ ((number ≡ 14) ⊎ (number ≡ 21)))
 
-verdict-number : (limit : ℕ) (r : Reading Refusal Both) → OnlyRefused (λ (r : Refusal). InTable 9 (r .number)) r
-    → (o : Option Plan) → OfTable (verdictOf limit r o .number)
+verdict-number : (mode : Mode) (limit : ℕ) (r : Reading Refusal Both) → OnlyRefused (λ (r : Refusal). InTable 9 (r .number)) r
+    → (o : Option Plan) → OfTable (verdictOf mode limit r o .number)
 unfolding verdictOf planNumber plain
-verdict-number limit (refusal r) h o = inl (h .1)
-verdict-number limit (good sheets) h none = inr (inr (inl refl))
-verdict-number limit (good sheets) h (some p) = at (eqb (p .n) (sheets .one .n)) _ (walk-number _ (sheets .one) (sheets .two)
+verdict-number mode limit (refusal r) h o = inl (h .1)
+verdict-number mode limit (good sheets) h none = inr (inr (inl refl))
+verdict-number mode limit (good sheets) h (some p) = at (eqb (p .n) (sheets .one .n)) _ (walk-number mode _ (sheets .one) (sheets .two)
     (p .rows) limit)
   where
     at : (b : Bool) (number : ℕ) → AfterPairs number → OfTable (cond b number 9)
@@ -65,11 +66,11 @@ before-pairs number l (inr h) (inr (inr e)) = omega arith
 
 pub check-answers : CheckAnswers
 unfolding checkPlanOf refused workAfter
-check-answers R blank old new plan work =
+check-answers R blank mode old new plan work =
     let limit = limitOf (length work) in
-    let n : ℕ = verdictOf limit (readBoth 0 0 old new) (readPlan plan) .number in
+    let n : ℕ = verdictOf mode limit (readBoth 0 0 old new) (readPlan plan) .number in
     record {
-      number = verdict-number limit (readBoth 0 0 old new) (both-numbers 0 0 old new) (readPlan plan);
+      number = verdict-number mode limit (readBoth 0 0 old new) (both-numbers 0 0 old new) (readPlan plan);
       counts = (refl, refl, refl, refl);
       unchanged = λ l h. cond-no (afterPairs n) (map (λ r. blank) work) work (λ t. before-pairs n l h (after-elim n t));
       zero = λ h. cond-yes (afterPairs n) (map (λ r. blank) work) work (after-intro n h);
@@ -77,7 +78,7 @@ check-answers R blank old new plan work =
 
 pub check-refuses : CheckRefuses
 unfolding checkPlanOf verdictOf planNumber
-check-refuses R blank old new plan work =
+check-refuses R blank mode old new plan work =
     record {
       of-sheets = λ r e. rw e refl;
       of-plan = λ sheets e f. rw (e, f) refl;

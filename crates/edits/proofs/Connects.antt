@@ -2,21 +2,21 @@
 -- definition 3.7 of Padovani 2010. Its sets A are the rows' enabled codes.
 -- Assumes nothing.
 use mathlib.Core.Path.{_≡_, refl, subst⁻¹}
-use mathlib.Core.Logic.{inl, inr, ⊎-elim}
 use mathlib.Core.Option.{Option, some}
 use mathlib.Core.List.{List, List·Memᴰ}
 use Prim.Native.Nat.{ℕ, _+_}
 use lib.Dec.{T}
 use Rattle.model.specs.Contract.{Contract, state}
 use Rattle.model.specs.Situation.{Situation, Kind, straight, client, service, kindOf, codes, start, alike, next}
+use Rattle.model.specs.Test.{Mode}
 use Rattle.model.specs.Search.{at-start, by-move}
 use Rattle.model.specs.Plan.{Move}
-use Rattle.model.specs.Weak.{Largest}
+use Rattle.model.specs.Weak.{AsksAt, Largest}
 use Rattle.model.specs.Demands.{Related}
 use Rattle.model.proofs.Rounds.{Step}
 use Rattle.model.proofs.Situation.{code-straight, code-client, code-service, kind-straight, kind-client, kind-service}
-use Rattle.model.proofs.Test.{PassesAt}
-use Rattle.model.proofs.Weak.{offers-of, rank-reached, step-weak}
+use Rattle.model.proofs.Test.{mode-computes}
+use Rattle.model.proofs.Weak.{rank-reached, step-weak}
 use Rattle.edits.specs.Places.{Place, firstPlace, rowHere, IsPlace}
 use Rattle.edits.specs.Sound.{newMeets}
 use Rattle.edits.specs.Promises.{RowCode, IsSound, AcceptedConnects}
@@ -24,7 +24,7 @@ use Rattle.edits.proofs.Places.{holds-code, follow-intro, situation-rea
 use Rattle.edits.proofs.Leads.{met-enabled}
 use Rattle.edits.proofs.Passed.{over-passed}
 
-module _ (limits : List ℕ) (old new : Contract) (rows : List (List Move)) (sound : IsSound limits old new rows) where
+module _ (mode : Mode) (limits : List ℕ) (old new : Contract) (rows : List (List Move)) (sound : IsSound mode limits old new rows) where
   abbrev nx : Situation → ℕ → Option Situation
   nx = next limits old new
 
@@ -38,36 +38,27 @@ module _ (limits : List ℕ) (old new : Contract) (rows : List (List Move)) (sou
 
     -- the row's enabled codes
     abbrev Acts : ℕ → Type 0
-    Acts code = RowCode limits old new rows here code × List·Memᴰ code codes × ((t : Situation) × (nx s code ≡ some t))
+    Acts code = RowCode mode limits old new rows here code × List·Memᴰ code codes × ((t : Situation) × (nx s code ≡ some t))
 
     -- a code of the row that the new state can meet is one of them
-    enabled : (code : ℕ) (kind : Kind) → kindOf code ≡ kind → List·Memᴰ code codes → RowCode limits old new rows here code
+    enabled : (code : ℕ) (kind : Kind) → kindOf code ≡ kind → List·Memᴰ code codes → RowCode mode limits old new rows here code
         → T (newMeets (state new (s .new)) kind) → Acts code
     enabled code kind e known m met =
-        (m, known, met-enabled limits old new rows sound here r code m (subst⁻¹ (λ (k : Kind). T (newMeets (state new (s .new)) k)) e met))
+        (m, known, met-enabled mode limits old new rows sound here r code m (subst⁻¹ (λ (k : Kind). T (newMeets (state new (s .new)) k)) e met))
 
     -- a visited situation passes with them, and they lead to visited ones
-    visited-step : Step codes nx (PassesAt old new) Visited s
+    visited-step : Step codes nx (AsksAt mode old new) Visited s
     unfolding newMeets
     visited-step =
         record {
           acts = Acts;
-          passes = λ S m.
-              let q = state new (s .new) in
-              ⊎-elim
-              (λ x. inl (
-                x .0,
-                x .1,
-                λ j h b.
-                    ⊎-elim (λ a. inl (enabled (16 + j) (client j) (kind-client j h) (code-client j h) a tt))
-                    (λ a. inr (a .0, enabled j (straight j) (kind-straight j h) (code-straight j h) (a .1) (offers-of q S j m (a .0))))
-                    (x .2 j h b),
-              ))
-              (λ x.
-              let j = x .0 in
-              let met = offers-of q S j m (x .2) in
-              inr (j, x .1, x .2, enabled (32 + j) (service j) (kind-service j (x .1)) (code-service j (x .1)) (x .3) met))
-              (sound here r .passes S m);
+          passes = mode-computes mode old new .grows (RowCode mode limits old new rows here) Acts s
+              (record {
+                straight = λ j h o m. enabled j (straight j) (kind-straight j h) (code-straight j h) m o;
+                client = λ j h m. enabled (16 + j) (client j) (kind-client j h) (code-client j h) m tt;
+                service = λ j h o m. enabled (32 + j) (service j) (kind-service j h) (code-service j h) m o;
+              })
+              (sound here r .passes);
           known = λ code a. a .1;
           leads = λ code a.
               let t = a .2 in
@@ -76,17 +67,17 @@ module _ (limits : List ℕ) (old new : Contract) (rows : List (List Move)) (sou
         }
 
   -- the visited situations are such a relation, and the start is one of them
-  pub sound-related : Largest limits old new start
+  pub sound-related : Largest limits old new (AsksAt mode old new) start
   unfolding firstPlace
   sound-related = (
     Visited,
     (λ s w.
         let within = rank-reached limits old new (situation-reached limits old new rows (w .1)) in
-        step-weak limits old new Visited s within (visited-step s (w .0) (w .1))),
+        step-weak limits old new (AsksAt mode old new) Visited s within (visited-step s (w .0) (w .1))),
     (0, at-start refl),
   )
 
 pub accepted-connects : AcceptedConnects
-accepted-connects R blank old new plan work z =
-    over-passed blank old new plan work z (λ k σ τ. Related k σ τ start)
-    (λ p σ τ reads formed sound. sound-related (alike (p .k)) σ τ (p .rows) sound)
+accepted-connects R blank mode old new plan work z =
+    over-passed blank mode old new plan work z (λ k σ τ. Related (AsksAt mode σ τ) k σ τ start)
+    (λ p σ τ reads formed sound. sound-related mode (alike (p .k)) σ τ (p .rows) sound)

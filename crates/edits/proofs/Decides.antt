@@ -14,6 +14,7 @@ use Rattle.model.specs.Lists.{all}
 use Rattle.model.specs.Contract.{Contract}
 use Rattle.model.specs.Sheet.{plain, readBoth}
 use Rattle.model.specs.Situation.{alike}
+use Rattle.model.specs.Test.{Mode}
 use Rattle.model.specs.Search.{Search}
 use Rattle.model.specs.Plan.{Move, readPlan}
 use Rattle.model.specs.Connect.{limitOf, refused}
@@ -29,17 +30,17 @@ use Rattle.edits.proofs.Sound.{sound-elim, sound-intro}
 abbrev pub AfterPairs : ℕ → Type 0
 AfterPairs number = (number ≡ 0) ⊎ ((number ≡ 11) ⊎ (number ≡ 21))
 
-module _ (limits : List ℕ) (old new : Contract) (rows : List (List Move)) (limit : ℕ) where
+module _ (mode : Mode) (limits : List ℕ) (old new : Contract) (rows : List (List Move)) (limit : ℕ) where
   abbrev walk : Search Place
   walk = placesWalked limits old new rows limit
 
   abbrev number : ℕ
-  number = walked limits old new rows limit
+  number = walked mode limits old new rows limit
 
   abbrev allSound : Bool
-  allSound = all (soundPlace limits old new rows) (walk .done)
+  allSound = all (soundPlace mode limits old new rows) (walk .done)
 
-  judges-cut : (x : Place) (l : List Place) → walk .todo ≡ x ∷ l → number ≡ 11 → Judges limits old new rows limit number
+  judges-cut : (x : Place) (l : List Place) → walk .todo ≡ x ∷ l → number ≡ 11 → Judges mode limits old new rows limit number
   judges-cut x l e z =
       record {
         capacity = ((λ _. walk-cut limits old new rows limit (λ y. nil≢cons (sym y ∙ e))), (λ _. z));
@@ -48,19 +49,19 @@ module _ (limits : List ℕ) (old new : Contract) (rows : List (List Move)) (lim
       }
 
   -- a whole walk has found sound pairs only exactly if every reached pair is sound
-  pub all-reached : walk .todo ≡ [] → T allSound → IsSound limits old new rows
+  pub all-reached : walk .todo ≡ [] → T allSound → IsSound mode limits old new rows
   all-reached e t x r =
-      sound-elim limits old new rows x (all-elim (soundPlace limits old new rows) (walk-all limits old new rows limit e x r) t)
+      sound-elim mode limits old new rows x (all-elim (soundPlace mode limits old new rows) (walk-all limits old new rows limit e x r) t)
 
-  pub all-walked : IsSound limits old new rows → T allSound
+  pub all-walked : IsSound mode limits old new rows → T allSound
   all-walked s =
-      all-intro (soundPlace limits old new rows) (walk .done)
-      (λ x m. sound-intro limits old new rows x (s x (walk-found limits old new rows limit x m)))
+      all-intro (soundPlace mode limits old new rows) (walk .done)
+      (λ x m. sound-intro mode limits old new rows x (s x (walk-found limits old new rows limit x m)))
 
-  judges-whole : walk .todo ≡ [] → number ≡ cond allSound 0 21 → Judges limits old new rows limit number
+  judges-whole : walk .todo ≡ [] → number ≡ cond allSound 0 21 → Judges mode limits old new rows limit number
   judges-whole e z = go (dec-T allSound)
     where
-      go : T allSound ⊎ (T allSound → ⊥) → Judges limits old new rows limit number
+      go : T allSound ⊎ (T allSound → ⊥) → Judges mode limits old new rows limit number
       go (inl t) =
           let is-0 : number ≡ 0 = z ∙ cond-yes allSound 0 21 t in
           let sound = all-reached e t in
@@ -71,7 +72,7 @@ module _ (limits : List ℕ) (old new : Contract) (rows : List (List Move)) (lim
           }
       go (inr t) =
           let is-21 : number ≡ 21 = z ∙ cond-no allSound 0 21 t in
-          let unsound : IsSound limits old new rows → ⊥ = (λ s. t (all-walked s)) in
+          let unsound : IsSound mode limits old new rows → ⊥ = (λ s. t (all-walked s)) in
           record {
             capacity = ((λ y. absurd (omega (arith, is-21, y))), (λ w. absurd (walk-within limits old new rows limit e w)));
             accepts = λ _. ((λ y. absurd (omega (arith, is-21, y))), (λ s. absurd (unsound s)));
@@ -79,13 +80,13 @@ module _ (limits : List ℕ) (old new : Contract) (rows : List (List Move)) (lim
           }
 
   -- what a walk comes to is what it means, cut off or whole
-  pub walk-judges : Judges limits old new rows limit number
+  pub walk-judges : Judges mode limits old new rows limit number
   unfolding walked walkNumber
   walk-judges = go (walk .todo) refl
     where
-      go : (l : List Place) → walk .todo ≡ l → Judges limits old new rows limit number
-      go [] e = judges-whole e (ap (walkNumber limits old new rows (walk .done)) e)
-      go (x ∷ l) e = judges-cut x l e (ap (walkNumber limits old new rows (walk .done)) e)
+      go : (l : List Place) → walk .todo ≡ l → Judges mode limits old new rows limit number
+      go [] e = judges-whole e (ap (walkNumber mode limits old new rows (walk .done)) e)
+      go (x ∷ l) e = judges-cut x l e (ap (walkNumber mode limits old new rows (walk .done)) e)
 
   -- and is one of three numbers
   pub walk-number : AfterPairs number
@@ -96,15 +97,15 @@ module _ (limits : List ℕ) (old new : Contract) (rows : List (List Move)) (lim
       at true = inl refl
       at false = inr (inr refl)
 
-      go : (l : List Place) → AfterPairs (walkNumber limits old new rows (walk .done) l)
+      go : (l : List Place) → AfterPairs (walkNumber mode limits old new rows (walk .done) l)
       go [] = at allSound
       go (x ∷ l) = inr (inl refl)
 
 pub check-decides : CheckDecides
 unfolding checkPlanOf verdictOf planNumber refused plain
-check-decides R blank old new plan work sheets p e f n =
+check-decides R blank mode old new plan work sheets p e f n =
     let limit = limitOf (length work) in
-    let number : ℕ = walked (alike (p .k)) (sheets .one) (sheets .two) (p .rows) limit in
-    let is : verdictOf limit (readBoth 0 0 old new) (readPlan plan) .number ≡ number = rw (e, f, eq-eqb (p .n) (sheets .one .n) n) refl in
-    subst⁻¹ (Judges (alike (p .k)) (sheets .one) (sheets .two) (p .rows) limit) is
-    (walk-judges (alike (p .k)) (sheets .one) (sheets .two) (p .rows) limit)
+    let number : ℕ = walked mode (alike (p .k)) (sheets .one) (sheets .two) (p .rows) limit in
+    let is : verdictOf mode limit (readBoth 0 0 old new) (readPlan plan) .number ≡ number = rw (e, f, eq-eqb (p .n) (sheets .one .n) n) refl in
+    subst⁻¹ (Judges mode (alike (p .k)) (sheets .one) (sheets .two) (p .rows) limit) is
+    (walk-judges mode (alike (p .k)) (sheets .one) (sheets .two) (p .rows) limit)

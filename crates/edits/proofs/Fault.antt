@@ -13,6 +13,7 @@ use Rattle.model.specs.Lists.{all}
 use Rattle.model.specs.Contract.{Contract}
 use Rattle.model.specs.Sheet.{Reading, good, refusal, Refusal, plain, Both, readBoth}
 use Rattle.model.specs.Situation.{alike}
+use Rattle.model.specs.Test.{Mode}
 use Rattle.model.specs.Search.{Search}
 use Rattle.model.specs.Plan.{Move, Plan, readPlan}
 use Rattle.model.specs.Connect.{limitOf, refused}
@@ -27,94 +28,95 @@ use Rattle.edits.proofs.Sound.{sound-elim, sound-intro, blame-breaks}
 
 -- ---- the walk
 
-module _ (limits : List ℕ) (old new : Contract) (rows : List (List Move)) (limit : ℕ) where
+module _ (mode : Mode) (limits : List ℕ) (old new : Contract) (rows : List (List Move)) (limit : ℕ) where
   abbrev walk : Search Place
   walk = placesWalked limits old new rows limit
 
   abbrev sound : Place → Bool
-  sound = soundPlace limits old new rows
+  sound = soundPlace mode limits old new rows
 
   -- what a whole walk comes to
   abbrev judged : ℕ
   judged = cond (all sound (walk .done)) 0 21
 
   abbrev Telling : PlanFault → Type 0
-  Telling f = Tells limits old new rows limit f
+  Telling f = Tells mode limits old new rows limit f
 
   -- the first pair of the walk that fails is what is told
-  first-told : (x : Place) → firstNot sound (walk .done) ≡ some x → Telling (faultAt limits old new rows (some x))
+  first-told : (x : Place) → firstNot sound (walk .done) ≡ some x → Telling (faultAt mode limits old new rows (some x))
   unfolding faultAt
   first-told x e =
       let w = first-fails sound (walk .done) x e in
       record {
-        first = first-as (λ y. T (sound y)) (Sound limits old new rows) (sound-elim limits old new rows) (sound-intro limits old new rows) w;
-        breaks = blame-breaks limits old new rows x (w .fails);
+        first = first-as (λ y. T (sound y)) (Sound mode limits old new rows)
+            (sound-elim mode limits old new rows) (sound-intro mode limits old new rows) w;
+        breaks = blame-breaks mode limits old new rows x (w .fails);
       }
 
   -- a walk that comes to 21 is whole and has such a pair
-  walk-told : walked limits old new rows limit ≡ 21 → Telling (faultWalked limits old new rows limit)
+  walk-told : walked mode limits old new rows limit ≡ 21 → Telling (faultWalked mode limits old new rows limit)
   unfolding walked walkNumber faultWalked faultAmong firstFault
   walk-told z = go (walk .todo) refl z
     where
-      at : (o : Option Place) → firstNot sound (walk .done) ≡ o → judged ≡ 21 → Telling (faultAt limits old new rows o)
+      at : (o : Option Place) → firstNot sound (walk .done) ≡ o → judged ≡ 21 → Telling (faultAt mode limits old new rows o)
       at none e z = absurd (omega (arith, z, cond-yes {A = ℕ} (all sound (walk .done)) 0 21 (none-fails sound (walk .done) e)))
       at (some x) e z = first-told x e
 
-      go : (l : List Place) → walk .todo ≡ l → walkNumber limits old new rows (walk .done) l ≡ 21
-          → Telling (faultAmong limits old new rows (walk .done) l)
+      go : (l : List Place) → walk .todo ≡ l → walkNumber mode limits old new rows (walk .done) l ≡ 21
+          → Telling (faultAmong mode limits old new rows (walk .done) l)
       go [] e z = at (firstNot sound (walk .done)) refl z
       go (x ∷ l) e z = absurd (omega (arith, z))
 
   -- and a walk that does not has none to tell
-  walk-silent : (walked limits old new rows limit ≡ 21 → ⊥) → faultWalked limits old new rows limit ≡ noFault
+  walk-silent : (walked mode limits old new rows limit ≡ 21 → ⊥) → faultWalked mode limits old new rows limit ≡ noFault
   unfolding walked walkNumber faultWalked faultAmong firstFault faultAt
   walk-silent n = go (walk .todo) n
     where
-      at : (o : Option Place) → firstNot sound (walk .done) ≡ o → (judged ≡ 21 → ⊥) → faultAt limits old new rows o ≡ noFault
+      at : (o : Option Place) → firstNot sound (walk .done) ≡ o → (judged ≡ 21 → ⊥) → faultAt mode limits old new rows o ≡ noFault
       at none e n = refl
       at (some x) e n =
           absurd (n (cond-no (all sound (walk .done)) 0 21 (λ t. Option·none-ne-some x (sym (all-pass sound (walk .done) t) ∙ e))))
 
-      go : (l : List Place) → (walkNumber limits old new rows (walk .done) l ≡ 21 → ⊥)
-          → faultAmong limits old new rows (walk .done) l ≡ noFault
+      go : (l : List Place) → (walkNumber mode limits old new rows (walk .done) l ≡ 21 → ⊥)
+          → faultAmong mode limits old new rows (walk .done) l ≡ noFault
       go [] n = at (firstNot sound (walk .done)) refl n
       go (x ∷ l) n = refl
 
 -- ---- the plan
 
 -- a plan over other names is not walked: 9 is not 21
-plan-told : (limit : ℕ) (sheets : Both) (p : Plan) → planNumber limit sheets (some p) ≡ 21
-    → Tells (alike (p .k)) (sheets .one) (sheets .two) (p .rows) limit (planFault limit sheets (some p))
+plan-told : (mode : Mode) (limit : ℕ) (sheets : Both) (p : Plan) → planNumber mode limit sheets (some p) ≡ 21
+    → Tells mode (alike (p .k)) (sheets .one) (sheets .two) (p .rows) limit (planFault mode limit sheets (some p))
 unfolding planNumber planFault
-plan-told limit sheets p z = go (eqb (p .n) (sheets .one .n)) z
+plan-told mode limit sheets p z = go (eqb (p .n) (sheets .one .n)) z
   where
-    go : (b : Bool) → cond b (walked (alike (p .k)) (sheets .one) (sheets .two) (p .rows) limit) 9 ≡ 21
-        → Tells (alike (p .k)) (sheets .one) (sheets .two) (p .rows) limit
-        (cond b (faultWalked (alike (p .k)) (sheets .one) (sheets .two) (p .rows) limit) noFault)
-    go true z = walk-told (alike (p .k)) (sheets .one) (sheets .two) (p .rows) limit z
+    go : (b : Bool) → cond b (walked mode (alike (p .k)) (sheets .one) (sheets .two) (p .rows) limit) 9 ≡ 21
+        → Tells mode (alike (p .k)) (sheets .one) (sheets .two) (p .rows) limit
+        (cond b (faultWalked mode (alike (p .k)) (sheets .one) (sheets .two) (p .rows) limit) noFault)
+    go true z = walk-told mode (alike (p .k)) (sheets .one) (sheets .two) (p .rows) limit z
     go false z = absurd (omega (arith, z))
 
-plan-silent : (limit : ℕ) (r : Reading Refusal Both) (o : Option Plan) → (verdictOf limit r o .number ≡ 21 → ⊥)
-    → faultOf limit r o ≡ noFault
+plan-silent : (mode : Mode) (limit : ℕ) (r : Reading Refusal Both) (o : Option Plan) → (verdictOf mode limit r o .number ≡ 21 → ⊥)
+    → faultOf mode limit r o ≡ noFault
 unfolding verdictOf planNumber plain faultOf planFault
-plan-silent limit (refusal r) o n = refl
-plan-silent limit (good sheets) none n = refl
-plan-silent limit (good sheets) (some p) n = go (eqb (p .n) (sheets .one .n)) n
+plan-silent mode limit (refusal r) o n = refl
+plan-silent mode limit (good sheets) none n = refl
+plan-silent mode limit (good sheets) (some p) n = go (eqb (p .n) (sheets .one .n)) n
   where
-    go : (b : Bool) → (cond b (walked (alike (p .k)) (sheets .one) (sheets .two) (p .rows) limit) 9 ≡ 21 → ⊥)
-        → cond b (faultWalked (alike (p .k)) (sheets .one) (sheets .two) (p .rows) limit) noFault ≡ noFault
-    go true n = walk-silent (alike (p .k)) (sheets .one) (sheets .two) (p .rows) limit n
+    go : (b : Bool) → (cond b (walked mode (alike (p .k)) (sheets .one) (sheets .two) (p .rows) limit) 9 ≡ 21 → ⊥)
+        → cond b (faultWalked mode (alike (p .k)) (sheets .one) (sheets .two) (p .rows) limit) noFault ≡ noFault
+    go true n = walk-silent mode (alike (p .k)) (sheets .one) (sheets .two) (p .rows) limit n
     go false n = refl
 
 pub fault-tells : FaultTells
 unfolding checkPlanOf planFaultOf refused verdictOf faultOf plain
-fault-tells R blank old new plan work =
+fault-tells R blank mode old new plan work =
     let limit = limitOf (length work) in
     record {
       told = λ sheets p e f z.
-          let number : verdictOf limit (readBoth 0 0 old new) (readPlan plan) .number ≡ planNumber limit sheets (some p) = rw (e, f) refl in
-          let fault : faultOf limit (readBoth 0 0 old new) (readPlan plan) ≡ planFault limit sheets (some p) = rw (e, f) refl in
-          subst⁻¹ (Tells (alike (p .k)) (sheets .one) (sheets .two) (p .rows) limit) fault (plan-told limit sheets p (sym number ∙ z));
-      nothing = plan-silent limit (readBoth 0 0 old new) (readPlan plan);
+          let number : verdictOf mode limit (readBoth 0 0 old new) (readPlan plan) .number ≡ planNumber mode limit sheets (some p) = rw (e, f) refl in
+          let fault : faultOf mode limit (readBoth 0 0 old new) (readPlan plan) ≡ planFault mode limit sheets (some p) = rw (e, f) refl in
+          subst⁻¹ (Tells mode (alike (p .k)) (sheets .one) (sheets .two) (p .rows) limit) fault (plan-told mode limit sheets p (sym number ∙ z));
+      nothing = plan-silent mode limit (readBoth 0 0 old new) (readPlan plan);
       lent = refl;
     }

@@ -7,6 +7,7 @@ use Prim.Native.Nat.{ℕ}
 use lib.Dec.{T}
 use Rattle.model.specs.Contract.{Contract, state}
 use Rattle.model.specs.Situation.{Situation, kindOf, codes, next}
+use Rattle.model.specs.Test.{Mode}
 use Rattle.model.specs.Search.{by-move}
 use Rattle.model.specs.Plan.{Move, held}
 use Rattle.model.proofs.Situation.{behind, next-intro}
@@ -16,9 +17,9 @@ use Rattle.edits.specs.Promises.{RowCode, IsSound}
 use Rattle.edits.proofs.Places.{held-code, follow-intro}
 use Rattle.edits.proofs.Sound.{both-met}
 
-module _ (limits : List ℕ) (old new : Contract) (rows : List (List Move)) (sound : IsSound limits old new rows) where
+module _ (mode : Mode) (limits : List ℕ) (old new : Contract) (rows : List (List Move)) (sound : IsSound mode limits old new rows) where
   -- it is enabled: the old state can meet it too, and the buffer is kept
-  pub met-enabled : (x : Place) → IsPlace limits old new rows x → (code : ℕ) → RowCode limits old new rows x code
+  pub met-enabled : (x : Place) → IsPlace limits old new rows x → (code : ℕ) → RowCode mode limits old new rows x code
       → T (newMeets (state new (x .at .new)) (kindOf code)) → (t : Situation) × (next limits old new (x .at) code ≡ some t)
   met-enabled x r code m met =
       let s = x .at in

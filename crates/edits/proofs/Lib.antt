@@ -6,6 +6,7 @@ pub mod Answers
 pub mod Fault
 pub mod Leads
 pub mod Passed
+pub mod Stricter
 pub mod AnyHand
 pub mod Connects
 pub mod Ours

@@ -1,4 +1,4 @@
--- Every plan we emit is accepted, `ours-pass`: its reached pairs are its states with the situations they stand for, so they are sound and
+-- Every plan we emit is accepted in its mode, `ours-pass`: its reached pairs are its states with the situations they stand for, so they are sound and
 -- no more than the states.
 -- Assumes nothing.
 use mathlib.Core.Path.{_≡_, refl, sym, ap, subst⁻¹, _∙_}
@@ -10,16 +10,18 @@ use lib.ListN.{length, getElem?}
 use Rattle.model.specs.Lists.{Distinct}
 use Rattle.model.specs.Contract.{Contract, state}
 use Rattle.model.specs.Situation.{Situation, kindOf, start, alike, next}
+use Rattle.model.specs.Test.{Mode, test}
 use Rattle.model.specs.Search.{at-start, by-move}
 use Rattle.model.specs.Plan.{Move, Plan, readPlan, rowsIn}
 use Rattle.model.specs.Connect.{rowsFor, limitOf, connectOf}
+use Rattle.model.specs.Weak.{AsksAt}
 use Rattle.model.specs.Demands.{emittedPlan, Related, IsKept, kept-start, kept-move, HoldsLargest}
 use Rattle.model.proofs.PlanRows.{at-mem}
 use Rattle.model.proofs.PlanLaid.{laid}
 use Rattle.model.proofs.PlanRuns.{rows-read}
 use Rattle.model.proofs.Search.{pigeons}
 use Rattle.model.proofs.Situation.{next-elim}
-use Rattle.model.proofs.Test.{is-test}
+use Rattle.model.proofs.Test.{rounds-test, mode-computes}
 use Rattle.model.proofs.Weak.{weak-closed}
 use Rattle.model.proofs.Accepted.{keptOf, accepted, accepted-reads}
 use Rattle.model.proofs.Demand2.{limit-few, emitted-is, demand-2}
@@ -52,7 +54,8 @@ mem-numbered i (s ∷ l) (suc j) x e f = List·Memᴰ·tail (mem-numbered (suc i
 
 -- ---- rows that hold the largest relation's moves
 
-module _ (k : ℕ) (σ τ : Contract) (bytes : List ℕ) (h : HoldsLargest k σ τ bytes) (begun : Related k σ τ start) where
+module _ (mode : Mode) (k : ℕ) (σ τ : Contract) (bytes : List ℕ)
+    (h : HoldsLargest (AsksAt mode σ τ) k σ τ bytes) (begun : Related (AsksAt mode σ τ) k σ τ start) where
   abbrev rows : List (List Move)
   rows = rowsIn bytes
 
@@ -77,8 +80,8 @@ module _ (k : ℕ) (σ τ : Contract) (bytes : List ℕ) (h : HoldsLargest k σ 
         pigeons l (numbered 0 (h .states)) d (λ x m. mem-numbered 0 (h .states) (x .plan) x (omega arith) (stands (f x m))),
       )
 
-  kept-related : {s : Situation} → IsKept k σ τ s → Related k σ τ s
-  kept-related (kept-start e) = subst⁻¹ (λ (s : Situation). Related k σ τ s) e begun
+  kept-related : {s : Situation} → IsKept (AsksAt mode σ τ) k σ τ s → Related (AsksAt mode σ τ) k σ τ s
+  kept-related (kept-start e) = subst⁻¹ (λ (s : Situation). Related (AsksAt mode σ τ) k σ τ s) e begun
   kept-related (kept-move code m e r from) = r
 
   module _ (x : Place) (r : Here x) where
@@ -86,7 +89,7 @@ module _ (k : ℕ) (σ τ : Contract) (bytes : List ℕ) (h : HoldsLargest k σ 
     s = x .at
 
     -- what the row holds is enabled
-    row-enabled : (code : ℕ) → RowCode (alike k) σ τ rows x code → (t : Situation) × (next (alike k) σ τ s code ≡ some t)
+    row-enabled : (code : ℕ) → RowCode mode (alike k) σ τ rows x code → (t : Situation) × (next (alike k) σ τ s code ≡ some t)
     unfolding rowHere
     row-enabled code m =
         let w = holds-code (rowHere (alike k) σ τ rows x) code m in
@@ -94,11 +97,11 @@ module _ (k : ℕ) (σ τ : Contract) (bytes : List ℕ) (h : HoldsLargest k σ 
         (v .0, v .2)
 
     -- and the row holds all that some relation of definition 3.7 asks for
-    place-sound : Sound (alike k) σ τ rows x
+    place-sound : Sound mode (alike k) σ τ rows x
     unfolding rowHere
     place-sound =
         let related = kept-related (h .kept s .0 (at-mem (h .states) (x .plan) s (stands r))) in
-        let step = weak-closed (alike k) σ τ (related .0) (related .1) s (related .2) in
+        let step = weak-closed (alike k) σ τ (test mode σ τ) (AsksAt mode σ τ) (mode-computes mode σ τ) (related .0) (related .1) s (related .2) in
         record {
           within = λ code m.
               let t = row-enabled code m in
@@ -108,7 +111,7 @@ module _ (k : ℕ) (σ τ : Contract) (bytes : List ℕ) (h : HoldsLargest k σ 
               let t = row-enabled code m in
               let o = next-elim (alike k) σ τ s code (kindOf code) (t .0) refl (t .1) .0 in
               old-met (state σ (s .old)) (state τ (s .new)) (kindOf code) o;
-          passes = is-test σ τ .grows (step .acts) (RowCode (alike k) σ τ rows x) s
+          passes = rounds-test (mode-computes mode σ τ) .grows (step .acts) (RowCode mode (alike k) σ τ rows x) s
               (λ code a.
               let t = step .leads code a in
               let w = h .every (x .plan) code s (t .0) (stands r) (step .known code a) (t .1) (related .0, related .1, t .2) in
@@ -117,7 +120,7 @@ module _ (k : ℕ) (σ τ : Contract) (bytes : List ℕ) (h : HoldsLargest k σ 
         }
 
   -- with a record for each plan state the check comes to 0
-  judged-sound : (limit number : ℕ) → length (h .states) ≤ limit → Judges (alike k) σ τ rows limit number → number ≡ 0
+  judged-sound : (limit number : ℕ) → length (h .states) ≤ limit → Judges mode (alike k) σ τ rows limit number → number ≡ 0
   judged-sound limit number enough j =
       let whole : number ≡ 11 → ⊥ = (λ e. let w = j .capacity .0 e in omega (arith, few-places (w .0) (w .1) (w .2), w .3, enough)) in
       j .accepts whole .1 place-sound
@@ -130,24 +133,24 @@ limit-enough records count h l = omega arith
 
 pub ours-pass : OursPass
 unfolding connectOf
-ours-pass R Q blank empty k old new work plan records z enough =
-    let c = accepted (length work) (length plan) k old new z in
+ours-pass R Q blank empty mode k old new work plan records z enough =
+    let c = accepted mode (length work) (length plan) k old new z in
     let σ = c .sheets .one in
     let τ = c .sheets .two in
-    let made = emittedPlan (connectOf blank k old new work plan) in
+    let made = emittedPlan (connectOf blank mode k old new work plan) in
     let limit = limitOf (length work) in
-    let p : Plan = record { n = σ .n; k = k; rows = rowsFor k σ τ (keptOf k limit σ τ) } in
+    let p : Plan = record { n = σ .n; k = k; rows = rowsFor k σ τ (keptOf mode k limit σ τ) } in
     let reads : readPlan made ≡ some p =
-    ap readPlan (emitted-is blank k old new (c .sheets) work (c .admitted) plan (c .situations) (c .states) (c .rounds) (c .emits))
-    ∙ accepted-reads k limit (length plan) old new c (limit-few (length work)) in
-    let d = demand-2 R blank k old new (c .sheets) work plan (c .admitted) in
+    ap readPlan (emitted-is blank mode k old new (c .sheets) work (c .admitted) plan (c .situations) (c .states) (c .rounds) (c .emits))
+    ∙ accepted-reads mode k limit (length plan) old new c (limit-few (length work)) in
+    let d = demand-2 R blank mode k old new (c .sheets) work plan (c .admitted) in
     let h = d .emitted z in
     let begun = d .accepts (λ y. absurd (omega (arith, y, z))) (λ y. absurd (omega (arith, y, z))) .0 z in
     let rows-are = rows-read made p reads in
     let fits : length (h .states) ≤ limitOf (length records) =
     limit-enough (length records) (length (h .states)) (omega (arith, h .rows, d .states z, enough))
     (omega (arith, h .rows, ap length rows-are, laid made p reads .few)) in
-    let number = checkPlanOf empty old new made records .answer .number in
-    judged-sound k σ τ made h begun (limitOf (length records)) number fits
-    (subst⁻¹ (λ (rs : List (List Move)). Judges (alike k) σ τ rs (limitOf (length records)) number) rows-are
-    (check-decides Q empty old new made records (c .sheets) p (c .admitted .reads) reads refl))
+    let number = checkPlanOf empty mode old new made records .answer .number in
+    judged-sound mode k σ τ made h begun (limitOf (length records)) number fits
+    (subst⁻¹ (λ (rs : List (List Move)). Judges mode (alike k) σ τ rs (limitOf (length records)) number) rows-are
+    (check-decides Q empty mode old new made records (c .sheets) p (c .admitted .reads) reads refl))

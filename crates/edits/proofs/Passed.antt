@@ -1,4 +1,4 @@
--- What acceptance of a plan gives: two sheets and a plan over the same names, and every reached pair is sound. By the cases of the check.
+-- What acceptance of a plan gives: two sheets and a plan over the same names, and every reached pair is sound in the mode. By the cases of the check.
 -- Assumes nothing.
 use mathlib.Core.Path.{_≡_, refl, ap, subst⁻¹}
 use mathlib.Core.Bool.{Bool, true, false, cond}
@@ -12,6 +12,7 @@ use borrow.Author.Tests.{eqb-true}
 use Rattle.model.specs.Contract.{Contract}
 use Rattle.model.specs.Sheet.{Reading, good, refusal, Refusal, plain, Both, readBoth, contractIn}
 use Rattle.model.specs.Situation.{alike}
+use Rattle.model.specs.Test.{Mode}
 use Rattle.model.specs.Plan.{Plan, readPlan}
 use Rattle.model.specs.Connect.{limitOf, refused}
 use Rattle.model.proofs.Sheet.{WellFormed, both-well-formed, both-contracts}
@@ -21,41 +22,41 @@ use Rattle.edits.specs.Promises.{IsSound, rankOf}
 use Rattle.edits.proofs.Decides.{walk-judges}
 
 -- what acceptance gives, with so many pairs at most
-pub record Passed (limit : ℕ) (old new plan : List ℕ) : Type 0 where
+pub record Passed (mode : Mode) (limit : ℕ) (old new plan : List ℕ) : Type 0 where
   pub sheets : Both
   pub reads : readBoth 0 0 old new ≡ good sheets
   pub plan-is : Plan
   pub plan-reads : readPlan plan ≡ some plan-is
   pub names : plan-is .n ≡ sheets .one .n
-  pub walks : walked (alike (plan-is .k)) (sheets .one) (sheets .two) (plan-is .rows) limit ≡ 0
+  pub walks : walked mode (alike (plan-is .k)) (sheets .one) (sheets .two) (plan-is .rows) limit ≡ 0
 
-verdict-passed : (limit : ℕ) (old new plan : List ℕ) → verdictOf limit (readBoth 0 0 old new) (readPlan plan) .number ≡ 0
-    → Passed limit old new plan
+verdict-passed : (mode : Mode) (limit : ℕ) (old new plan : List ℕ) → verdictOf mode limit (readBoth 0 0 old new) (readPlan plan) .number ≡ 0
+    → Passed mode limit old new plan
 unfolding verdictOf planNumber plain
-verdict-passed limit old new plan = go (readBoth 0 0 old new) refl (both-numbers 0 0 old new) (readPlan plan) refl
+verdict-passed mode limit old new plan = go (readBoth 0 0 old new) refl (both-numbers 0 0 old new) (readPlan plan) refl
   where
     at : (sheets : Both) → readBoth 0 0 old new ≡ good sheets → (p : Plan) → readPlan plan ≡ some p
         → (b : Bool) → eqb (p .n) (sheets .one .n) ≡ b
-        → cond b (walked (alike (p .k)) (sheets .one) (sheets .two) (p .rows) limit) 9 ≡ 0 → Passed limit old new plan
+        → cond b (walked mode (alike (p .k)) (sheets .one) (sheets .two) (p .rows) limit) 9 ≡ 0 → Passed mode limit old new plan
     at sheets e p f true q z =
         record { sheets = sheets; reads = e; plan-is = p; plan-reads = f; names = eqb-true (p .n) (sheets .one .n) q; walks = z }
     at sheets e p f false q z = absurd (omega (arith, z))
 
     go : (r : Reading Refusal Both) → readBoth 0 0 old new ≡ r → OnlyRefused (λ (r : Refusal). InTable 9 (r .number)) r
-        → (o : Option Plan) → readPlan plan ≡ o → verdictOf limit r o .number ≡ 0 → Passed limit old new plan
+        → (o : Option Plan) → readPlan plan ≡ o → verdictOf mode limit r o .number ≡ 0 → Passed mode limit old new plan
     go (refusal r) e l o f z = absurd (omega (arith, l .0, z))
     go (good sheets) e l none f z = absurd (omega (arith, z))
     go (good sheets) e l (some p) f z = at sheets e p f (eqb (p .n) (sheets .one .n)) refl z
 
-module _ {R : Type 0} (blank : R) (old new plan : List ℕ) (work : List R)
-    (z : checkPlanOf blank old new plan work .answer .number ≡ 0) where
-  pub passed : Passed (limitOf (length work)) old new plan
+module _ {R : Type 0} (blank : R) (mode : Mode) (old new plan : List ℕ) (work : List R)
+    (z : checkPlanOf blank mode old new plan work .answer .number ≡ 0) where
+  pub passed : Passed mode (limitOf (length work)) old new plan
   unfolding checkPlanOf refused
-  passed = verdict-passed (limitOf (length work)) old new plan z
+  passed = verdict-passed mode (limitOf (length work)) old new plan z
 
   -- What holds of two well-formed contracts and a plan that is read and whose reached pairs are all sound, holds of the bytes passed.
   pub over-passed {ℓ} : (P : (k : ℕ) → Contract → Contract → Type ℓ)
-      → ((p : Plan) (σ τ : Contract) → readPlan plan ≡ some p → WellFormed τ → IsSound (alike (p .k)) σ τ (p .rows) → P (p .k) σ τ)
+      → ((p : Plan) (σ τ : Contract) → readPlan plan ≡ some p → WellFormed τ → IsSound mode (alike (p .k)) σ τ (p .rows) → P (p .k) σ τ)
       → P (rankOf (readPlan plan)) (contractIn old) (contractIn new)
   unfolding rankOf
   over-passed P f =
@@ -64,8 +65,8 @@ module _ {R : Type 0} (blank : R) (old new plan : List ℕ) (work : List R)
       let σ = c .sheets .one in
       let τ = c .sheets .two in
       let are = both-contracts 0 0 old new (c .sheets) (c .reads) in
-      let judged = walk-judges (alike (p .k)) σ τ (p .rows) (limitOf (length work)) in
-      let sound : IsSound (alike (p .k)) σ τ (p .rows) = judged .accepts (λ y. omega (arith, y, c .walks)) .0 (c .walks) in
+      let judged = walk-judges mode (alike (p .k)) σ τ (p .rows) (limitOf (length work)) in
+      let sound : IsSound mode (alike (p .k)) σ τ (p .rows) = judged .accepts (λ y. omega (arith, y, c .walks)) .0 (c .walks) in
       subst⁻¹ (λ (k : ℕ). P k (contractIn old) (contractIn new)) (ap rankOf (c .plan-reads))
       (subst⁻¹ (λ (o : Contract). P (p .k) o (contractIn new)) (are .0)
       (subst⁻¹ (λ (n : Contract). P (p .k) σ n) (are .1)
