@@ -1,4 +1,4 @@
-// A row of a plan in a situation: which of the three conditions of the check it breaks first, and by which code or ready set.
+// A row of a plan in a situation: which condition of the check it breaks first, told the mode, and by which code or ready set.
 ghost use mathlib.Core.Path.{_≡_};
 ghost use mathlib.Core.List.{List·Memᴰ};
 ghost use mathlib.Core.Option.{none};
@@ -7,17 +7,18 @@ ghost use lib.ListN.{length, getD};
 ghost use Rattle.model.specs.Contract.{state};
 ghost use Rattle.model.specs.Sheet.{contractIn};
 ghost use Rattle.model.specs.Situation.{alike, kindOf, codes};
-ghost use Rattle.model.specs.Test.{answered};
+ghost use Rattle.model.specs.Test.{answered, hope, asked, delivered};
 ghost use Rattle.model.specs.Plan.{readMoves};
 ghost use Rattle.sheet.specs.Whole.{IsState};
 ghost use Rattle.moves.specs.Present.{codesOf};
-ghost use Rattle.moves.specs.Situations.{situationOf};
+ghost use Rattle.moves.specs.Modes.{modeOf};
+ghost use Rattle.moves.specs.Situations.{situationOf, Placed};
 ghost use Rattle.edits.specs.Places.{codesIn};
 ghost use Rattle.edits.specs.Sound.{firstNot, blamed, blameOf};
 ghost use Rattle.edits_rows.specs.Rows.{InRow, keepsCounts, metBy, blameFrom, WithCode, Judgeable};
 
 // Which condition fails, counted from 1, and 0 if none does; the code of the first move that breaks one of the first two; the first ready
-// set of the new state that the test does not answer.
+// set of the new state that breaks one of the others, the two parts of the test.
 #[repr(C)]
 pub struct Blame {
     pub condition: u8,
@@ -27,7 +28,7 @@ pub struct Blame {
 
 // Nothing is at fault.
 pub fn nothing() -> Blame
-    ensures { λ r. ⌜ r ≡ blameFrom (blamed none none none) ⌝ }
+    ensures { λ r. ⌜ r ≡ blameFrom (blamed none none none none) ⌝ }
 {
     Blame {
         condition: 0,
@@ -48,7 +49,7 @@ fn code_at(plan: &[u8], row: plan::Row, i: usize) -> u8
 fn outside(plan: &[u8], row: plan::Row, buffer: moves::Buffer, k: u8) -> Blame
     requires { ⌜ row .first + 3 * row .size ≤ length (now plan) ⌝ }
     ensures { λ r. ⌜ r ≡ blameFrom (blamed (firstNot (keepsCounts (alike k) (buffer .counts))
-        (codesIn (readMoves (now (plan .entry)) (row .first) (row .size)))) none none) ⌝ }
+        (codesIn (readMoves (now (plan .entry)) (row .first) (row .size)))) none none none) ⌝ }
 {
     let mut i = 0;
     while i < row.size {
@@ -86,7 +87,7 @@ fn met(code: u8, old: u16, new: u16) -> bool
 fn unmet(plan: &[u8], row: plan::Row, old: u16, new: u16) -> Blame
     requires { ⌜ row .first + 3 * row .size ≤ length (now plan) ⌝ }
     ensures { λ r. ⌜ r ≡ blameFrom (blamed none (firstNot (λ code. metBy old new (kindOf code))
-        (codesIn (readMoves (now (plan .entry)) (row .first) (row .size)))) none) ⌝ }
+        (codesIn (readMoves (now (plan .entry)) (row .first) (row .size)))) none none) ⌝ }
 {
     let mut i = 0;
     while i < row.size {
@@ -152,7 +153,7 @@ fn unanswered(old: &[u8], new: &[u8], p: u8, q: u8, present: moves::Present) -> 
     requires { ⌜ IsState (now old) p × IsState (now new) q ⌝ }
     ensures { λ r. ⌜ r ≡ blameFrom (blamed none none (firstNot
         (answered (state (contractIn (now (old .entry))) p .ready) (codesOf present))
-        (state (contractIn (now (new .entry))) q .ready))) ⌝ }
+        (state (contractIn (now (new .entry))) q .ready)) none) ⌝ }
 {
     let count = sheet::ready_count(new, q);
     let mut i: u8 = 0;
@@ -170,8 +171,49 @@ fn unanswered(old: &[u8], new: &[u8], p: u8, q: u8, present: moves::Present) -> 
     nothing()
 }
 
+// The first ready set of state q of the new contract with no action that can be moved with the service alone.
+fn without_hope(new: &[u8], q: u8, present: moves::Present) -> Blame
+    requires { ⌜ IsState (now new) q ⌝ }
+    ensures { λ r. ⌜ r ≡ blameFrom (blamed none none none (firstNot (hope (codesOf present)) (state (contractIn (now (new .entry))) q .ready))) ⌝ }
+{
+    let count = sheet::ready_count(new, q);
+    let mut i: u8 = 0;
+    while i < count {
+        let S = sheet::ready_set(new, q, i);
+        if !present.hope(S) {
+            return Blame {
+                condition: 4,
+                code: 0,
+                ready: S,
+            };
+        }
+        i += 1;
+    }
+    nothing()
+}
+
+// The first ready set of the new state that has not what the second part of the test asks, if that is asked in the situation.
+fn undelivered(
+    mode: moves::Mode,
+    old: &[u8],
+    new: &[u8],
+    at: moves::Situation,
+    present: moves::Present,
+) -> Blame
+    requires { ⌜ Placed (now old) (now new) at ⌝ }
+    ensures { λ r. ⌜ r ≡ blameFrom (blamed none none none (firstNot
+        (delivered (asked (modeOf mode) (state (contractIn (now (old .entry))) (at .old)) (at .buffer .counts)) (codesOf present))
+        (state (contractIn (now (new .entry))) (at .new) .ready))) ⌝ }
+{
+    if moves::due(mode, old, at) {
+        return without_hope(new, at.new, present);
+    }
+    nothing()
+}
+
 // What is at fault with a row in a situation whose states offer so much.
 pub fn judge(
+    mode: moves::Mode,
     old: &[u8],
     new: &[u8],
     plan: &[u8],
@@ -182,8 +224,8 @@ pub fn judge(
     new_offer: sheet::Offer,
 ) -> Blame
     requires { ⌜ Judgeable (now old) (now new) (now plan) row at «old_offer» «new_offer» ⌝ }
-    ensures { λ r. ⌜ r ≡ blameFrom (blameOf (alike k) (contractIn (now (old .entry))) (contractIn (now (new .entry))) (situationOf at)
-        (codesIn (readMoves (now (plan .entry)) (row .first) (row .size)))) ⌝ }
+    ensures { λ r. ⌜ r ≡ blameFrom (blameOf (modeOf mode) (alike k) (contractIn (now (old .entry))) (contractIn (now (new .entry)))
+        (situationOf at) (codesIn (readMoves (now (plan .entry)) (row .first) (row .size)))) ⌝ }
 {
     let first = outside(plan, row, at.buffer, k);
     let second = unmet(plan, row, old_offer.actions, new_offer.actions);
@@ -193,5 +235,10 @@ pub fn judge(
     if second.condition != 0 {
         return second;
     }
-    unanswered(old, new, at.old, at.new, present_in(plan, row))
+    let present = present_in(plan, row);
+    let third = unanswered(old, new, at.old, at.new, present);
+    if third.condition != 0 {
+        return third;
+    }
+    undelivered(mode, old, new, at, present)
 }

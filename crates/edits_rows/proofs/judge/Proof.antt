@@ -2,7 +2,7 @@
 -- Assumes nothing.
 use native.Mathlib.Omega.{arith}
 use borrow.Author.Needs.{needs}
-use Rattle.edits_rows.proofs.Judging.{judged-first, judged-second, judged-third}
+use Rattle.edits_rows.proofs.Judging.{judged-first, judged-second, judged-third, judged-fourth}
 use Rattle.edits_rows.proofs.judge.Statement.{statement}
 use Rattle.edits_rows.proofs.judge.Tie as tie
 
@@ -15,13 +15,13 @@ unmet-requires c κs = search needs
 returns : tie.Need-returns
 returns c =
     let first = c .before .before .before in
-    judged-first (first .before .before .before .before .pre) _ _ (first .outside .ensures) (omega arith)
+    judged-first _ (first .before .before .before .before .pre) _ _ (first .outside .ensures) (omega arith)
 
 returns-2 : tie.Need-returns-2
 returns-2 c =
     let second = c .before .before .before .before in
     let first = second .before in
-    judged-second (first .before .before .before .before .pre) _ _ (first .outside .ensures) (omega arith) (second .unmet .ensures)
+    judged-second _ (first .before .before .before .before .pre) _ _ (first .outside .ensures) (omega arith) (second .unmet .ensures)
     (omega arith)
 
 present-in-requires : tie.Need-present-in-requires
@@ -32,10 +32,23 @@ unanswered-requires c κs = search needs
 
 returns-3 : tie.Need-returns-3
 returns-3 c =
-    let second = c .before .before .before .before .before .before in
+    let third = c .before .before in
+    let second = third .before .before .before .before .before .before in
     let first = second .before in
-    judged-third (first .before .before .before .before .pre) _ _ (first .outside .ensures) (omega arith) (second .unmet .ensures)
-    (omega arith) (c .before .present-in .ensures) (c .unanswered .ensures)
+    judged-third _ (first .before .before .before .before .pre) _ _ (first .outside .ensures) (omega arith) (second .unmet .ensures)
+    (omega arith) (third .before .present-in .ensures) (third .unanswered .ensures) (omega arith)
+
+undelivered-requires : tie.Need-undelivered-requires
+undelivered-requires c κs = search needs
+
+returns-4 : tie.Need-returns-4
+returns-4 c =
+    let third = c .before .before .before in
+    let second = third .before .before .before .before .before .before in
+    let first = second .before in
+    let none-outside = third .before .before .before .before .if1 .left in
+    judged-fourth _ (first .before .before .before .before .pre) _ _ (first .outside .ensures) (omega (arith, none-outside))
+    (second .unmet .ensures) (omega arith) (third .before .present-in .ensures) (third .unanswered .ensures) (omega arith) (c .undelivered .ensures)
 
 pub judge-spec : {M : Type 1} → statement M
 judge-spec =
@@ -47,4 +60,6 @@ judge-spec =
     returns-2
     present-in-requires
     unanswered-requires
-    returns-3)
+    returns-3
+    undelivered-requires
+    returns-4)

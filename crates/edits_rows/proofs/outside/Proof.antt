@@ -37,7 +37,7 @@ unfolding blameFrom blamed
 returns c =
     let here = c .before .before .before in
     let fails = sym (kept _ _ _ (c .before .before .after .ensures)) ∙ not-true _ (c .if2 .taken) in
-    sym (ap (λ (o : Option ℕ). blameFrom (blamed o none none))
+    sym (ap (λ (o : Option ℕ). blameFrom (blamed o none none none))
     (list-here (here .before .before .before .loop .inv) 0 (omega arith) (here .code-at .ensures) fails))
 
 add-i : tie.Need-add-i Inv-loop μ-loop
@@ -58,7 +58,7 @@ nothing-requires c κs = tt
 returns-2 : tie.Need-returns-2 Inv-loop μ-loop
 returns-2 c =
     c .nothing .ensures
-    ∙ sym (ap (λ (o : Option ℕ). blameFrom (blamed o none none)) (list-none (c .before .before .before .loop .inv) (omega arith)))
+    ∙ sym (ap (λ (o : Option ℕ). blameFrom (blamed o none none none)) (list-none (c .before .before .before .loop .inv) (omega arith)))
 
 pub outside-spec : {M : Type 1} → statement M
 outside-spec =

@@ -41,7 +41,7 @@ returns : tie.Need-returns Inv-loop μ-loop
 unfolding blameFrom blamed
 returns c =
     let fails = sym (c .before .answers .ensures) ∙ not-true _ (c .if1 .taken) in
-    sym (ap (λ (o : Option ℕ). blameFrom (blamed none none o))
+    sym (ap (λ (o : Option ℕ). blameFrom (blamed none none o none))
     (list-here (c .before .before .before .before .loop .inv) 0 (omega arith) (c .before .before .ready-set .ensures) fails))
 
 add-i : tie.Need-add-i Inv-loop μ-loop
@@ -61,7 +61,7 @@ nothing-requires c κs = tt
 returns-2 : tie.Need-returns-2 Inv-loop μ-loop
 returns-2 c =
     c .nothing .ensures
-    ∙ sym (ap (λ (o : Option ℕ). blameFrom (blamed none none o)) (list-none (c .before .before .loop .inv) (omega arith)))
+    ∙ sym (ap (λ (o : Option ℕ). blameFrom (blamed none none o none)) (list-none (c .before .before .loop .inv) (omega arith)))
 
 pub unanswered-spec : {M : Type 1} → statement M
 unanswered-spec =

@@ -36,7 +36,7 @@ unfolding blameFrom blamed
 returns c =
     let here = c .before .before in
     let fails = sym (c .before .met .ensures) ∙ not-true _ (c .if2 .taken) in
-    sym (ap (λ (o : Option ℕ). blameFrom (blamed none o none))
+    sym (ap (λ (o : Option ℕ). blameFrom (blamed none o none none))
     (list-here (here .before .before .before .loop .inv) 0 (omega arith) (here .code-at .ensures) fails))
 
 add-i : tie.Need-add-i Inv-loop μ-loop
@@ -57,7 +57,7 @@ nothing-requires c κs = tt
 returns-2 : tie.Need-returns-2 Inv-loop μ-loop
 returns-2 c =
     c .nothing .ensures
-    ∙ sym (ap (λ (o : Option ℕ). blameFrom (blamed none o none)) (list-none (c .before .before .before .loop .inv) (omega arith)))
+    ∙ sym (ap (λ (o : Option ℕ). blameFrom (blamed none o none none)) (list-none (c .before .before .before .loop .inv) (omega arith)))
 
 pub unmet-spec : {M : Type 1} → statement M
 unmet-spec =
