@@ -177,17 +177,17 @@ fn without_hope(new: &[u8], q: u8, present: moves::Present) -> Blame
     ensures { λ r. ⌜ r ≡ blameFrom (blamed none none none (firstNot (hope (codesOf present)) (state (contractIn (now (new .entry))) q .ready))) ⌝ }
 {
     let count = sheet::ready_count(new, q);
-    let mut i: u8 = 0;
-    while i < count {
-        let S = sheet::ready_set(new, q, i);
-        if !present.hope(S) {
+    let mut place: u8 = 0;
+    while place < count {
+        let set = sheet::ready_set(new, q, place);
+        if !present.hope(set) {
             return Blame {
                 condition: 4,
                 code: 0,
-                ready: S,
+                ready: set,
             };
         }
-        i += 1;
+        place += 1;
     }
     nothing()
 }

@@ -1,4 +1,4 @@
--- `edits_rows::without_hope` meets its contract. The loop's invariant: the first ready set without hope is the first from place i on.
+-- `edits_rows::without_hope` meets its contract. The loop's invariant: the first ready set without hope is the first from `place` on.
 -- The measure is the number of ready sets left. Assumes nothing.
 use mathlib.Core.Path.{sym, ap, _∙_}
 use mathlib.Core.Option.{Option, none}
@@ -17,10 +17,10 @@ use Rattle.edits_rows.proofs.without_hope.Statement.{statement}
 use Rattle.edits_rows.proofs.without_hope.Tie as tie
 
 abbrev Inv-loop : tie.InvT-loop
-Inv-loop new q present count i₀ i = Along (hope (codesOf present)) (state (contractIn new) q .ready) count i
+Inv-loop new q present count place₀ place = Along (hope (codesOf present)) (state (contractIn new) q .ready) count place
 
 abbrev μ-loop : tie.MeasureT-loop
-μ-loop new q present count i₀ i = count - i
+μ-loop new q present count place₀ place = count - place
 
 ready-count-requires : tie.Need-ready-count-requires Inv-loop μ-loop
 ready-count-requires c κs = search needs
@@ -43,8 +43,8 @@ returns c =
     sym (ap (λ (o : Option ℕ). blameFrom (blamed none none none o))
     (list-here (c .before .before .before .before .loop .inv) 0 (omega arith) (c .before .before .ready-set .ensures) fails))
 
-add-i : tie.Need-add-i Inv-loop μ-loop
-add-i c = omega arith
+add-place : tie.Need-add-place Inv-loop μ-loop
+add-place c = omega arith
 
 loop-less : tie.Need-loop-less Inv-loop μ-loop
 loop-less c = omega arith
@@ -73,7 +73,7 @@ without-hope-spec =
     ready-set-requires
     hope-requires
     returns
-    add-i
+    add-place
     loop-less
     loop-again
     nothing-requires
