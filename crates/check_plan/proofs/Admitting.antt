@@ -10,6 +10,7 @@ use native.Mathlib.Omega.{arith}
 use lib.Dec.{eqb}
 use borrow.Author.Tests.{ne-eqb}
 use Rattle.model.specs.Sheet.{Reading, good, Refusal, Both, readBoth, contractIn, plain}
+use Rattle.model.specs.Test.{Mode}
 use Rattle.model.specs.Plan.{Plan, readPlan}
 use Rattle.model.specs.Connect as model
 use Rattle.model.specs.Connect.{refused}
@@ -50,8 +51,8 @@ module _ (old new plan : List ℕ) (pair : Pair) (is-pair : pair ≡ pairOf (rea
         good = λ z. absurd (omega (arith, n .0));
         bad = λ z.
             record {
-              answer = λ limit. ap (λ (b : Reading Refusal Both). refused (verdictOf limit b (readPlan plan)) .answer) read ∙ sym a;
-              fault = λ limit. ap (λ (b : Reading Refusal Both). faultOf limit b (readPlan plan)) read;
+              answer = λ mode limit. ap (λ (b : Reading Refusal Both). refused (verdictOf mode limit b (readPlan plan)) .answer) read ∙ sym a;
+              fault = λ mode limit. ap (λ (b : Reading Refusal Both). faultOf mode limit b (readPlan plan)) read;
               before = before-pairs (r .number) z (λ y. omega (arith, n .1)) (λ y. omega (arith, n .1));
             };
       }
@@ -63,18 +64,18 @@ module _ (old new plan : List ℕ) (pair : Pair) (is-pair : pair ≡ pairOf (rea
     read-good : readBoth 0 0 old new ≡ good sheets
     read-good = good-both 0 0 old new pair is-pair is-good
 
-    verdict-is : (limit : ℕ) → verdictIn old new plan limit ≡ plain (planNumber limit sheets (readPlan plan)) 0
+    verdict-is : (mode : Mode) (limit : ℕ) → verdictIn mode old new plan limit ≡ plain (planNumber mode limit sheets (readPlan plan)) 0
     unfolding verdictOf
-    verdict-is limit = ap (λ (b : Reading Refusal Both). verdictOf limit b (readPlan plan)) read-good
+    verdict-is mode limit = ap (λ (b : Reading Refusal Both). verdictOf mode limit b (readPlan plan)) read-good
 
-    fault-is : (limit : ℕ) → faultFor old new plan limit ≡ planFault limit sheets (readPlan plan)
+    fault-is : (mode : Mode) (limit : ℕ) → faultFor mode old new plan limit ≡ planFault mode limit sheets (readPlan plan)
     unfolding faultOf
-    fault-is limit = ap (λ (b : Reading Refusal Both). faultOf limit b (readPlan plan)) read-good
+    fault-is mode limit = ap (λ (b : Reading Refusal Both). faultOf mode limit b (readPlan plan)) read-good
 
     -- a refusal of the plan or of its names
     refused-plan : (number : ℕ) → answerOf r ≡ refusing number 0 0 → (number ≡ 9) ⊎ (number ≡ 14)
-        → ((limit : ℕ) → planNumber limit sheets (readPlan plan) ≡ number)
-        → ((limit : ℕ) → planFault limit sheets (readPlan plan) ≡ noFault)
+        → ((mode : Mode) (limit : ℕ) → planNumber mode limit sheets (readPlan plan) ≡ number)
+        → ((mode : Mode) (limit : ℕ) → planFault mode limit sheets (readPlan plan) ≡ noFault)
         → AdmitsPlan old new plan r
     unfolding refused refusing plain
     refused-plan number a w is none-told =
@@ -84,8 +85,9 @@ module _ (old new plan : List ℕ) (pair : Pair) (is-pair : pair ≡ pairOf (rea
           good = λ z. absurd (⊎-elim (λ h. omega (arith, h, z)) (λ h. omega (arith, h, z)) low);
           bad = λ z.
               record {
-                answer = λ limit. ap (λ (v : Refusal). refused v .answer) (verdict-is limit ∙ ap (λ (n : ℕ). plain n 0) (is limit)) ∙ sym a;
-                fault = λ limit. fault-is limit ∙ none-told limit;
+                answer = λ mode limit.
+                    ap (λ (v : Refusal). refused v .answer) (verdict-is mode limit ∙ ap (λ (n : ℕ). plain n 0) (is mode limit)) ∙ sym a;
+                fault = λ mode limit. fault-is mode limit ∙ none-told mode limit;
                 before =
                     before-pairs (r .number) z (λ y. ⊎-elim (λ h. omega (arith, h, y)) (λ h. omega (arith, h, y)) low)
                     (λ y. ⊎-elim (λ h. omega (arith, h, y)) (λ h. omega (arith, h, y)) low);
@@ -103,8 +105,8 @@ module _ (old new plan : List ℕ) (pair : Pair) (is-pair : pair ≡ pairOf (rea
           names = p .n;
           rank = p .k;
           is-plan = reads ∙ (λ i. some (record { n = p .n; k = p .k; rows = sym rows-are i }));
-          number = λ limit. verdict-is limit ∙ rw (reads, names, rows-are) refl;
-          fault = λ limit. fault-is limit ∙ rw (reads, names, rows-are) refl;
+          number = λ mode limit. verdict-is mode limit ∙ rw (reads, names, rows-are) refl;
+          fault = λ mode limit. fault-is mode limit ∙ rw (reads, names, rows-are) refl;
         }
 
     pub admits-plan : (number : ℕ) → number ≡ numberOfPlan (contractIn old .n) (readPlan plan) → answerOf r ≡ refusing number 0 0
@@ -118,8 +120,8 @@ module _ (old new plan : List ℕ) (pair : Pair) (is-pair : pair ≡ pairOf (rea
             let e : r .number ≡ 0 = number-is r _ a ∙ is in
             record { good = λ _. admitted-plan p reads names; bad = λ n. absurd (n e) }
         at p reads false names is =
-            refused-plan number a (inl is) (λ limit. rw (reads, names) (sym is)) (λ limit. rw (reads, names) refl)
+            refused-plan number a (inl is) (λ mode limit. rw (reads, names) (sym is)) (λ mode limit. rw (reads, names) refl)
 
         go : (o : Option Plan) → readPlan plan ≡ o → number ≡ numberOfPlan (contractIn old .n) o → AdmitsPlan old new plan r
-        go none reads is = refused-plan number a (inr is) (λ limit. rw reads (sym is)) (λ limit. rw reads refl)
+        go none reads is = refused-plan number a (inr is) (λ mode limit. rw reads (sym is)) (λ mode limit. rw reads refl)
         go (some p) reads is = at p reads (eqb (p .n) (contractIn old .n)) refl is

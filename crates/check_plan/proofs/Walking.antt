@@ -14,10 +14,13 @@ use Rattle.model.specs.Lists.{all}
 use Rattle.model.specs.Contract.{Contract}
 use Rattle.model.specs.Sheet.{contractIn, plain}
 use Rattle.model.specs.Situation.{alike}
+use Rattle.model.specs.Test as model
 use Rattle.model.specs.Plan.{Move, readPlan, rowsIn}
 use Rattle.model.specs.Search.{Search}
 use Rattle.model.specs.Connect.{limitOf}
 use Rattle.model.proofs.Lists.{cond-yes, cond-no}
+use Rattle.moves.specs.declared.Mode.{Mode}
+use Rattle.moves.specs.Modes.{modeOf}
 use Rattle.plan.specs.Layout.{isSome}
 use Rattle.table.specs.declared.Record.{Record}
 use Rattle.table.specs.Records.{blank, cleared}
@@ -38,37 +41,37 @@ use Rattle.check_plan.specs.Answers.{numberOfWalk, AdmittedPlan, WalksPl
 abbrev judged : PlanFault → ℕ
 judged f = cond (eqb (f .blame .condition) 0) 0 21
 
-module _ (limits : List ℕ) (old new : Contract) (rows : List (List Move)) (limit : ℕ) where
+module _ (mode : model.Mode) (limits : List ℕ) (old new : Contract) (rows : List (List Move)) (limit : ℕ) where
   abbrev search : Search Place
   search = placesWalked limits old new rows limit
 
   abbrev sound : Place → Bool
-  sound = soundPlace limits old new rows
+  sound = soundPlace mode limits old new rows
 
-  unblamed : (x : Place) → blameIn limits old new rows x .condition ≡ 0 → T (sound x)
+  unblamed : (x : Place) → blameIn mode limits old new rows x .condition ≡ 0 → T (sound x)
   unfolding blameIn soundPlace
-  unblamed x z = blame-none limits old new (x .at) (codesIn (rowHere limits old new rows x)) .0 z
+  unblamed x z = blame-none mode limits old new (x .at) (codesIn (rowHere limits old new rows x)) .0 z
 
   -- the first fault has the condition 0 exactly if all are sound
-  judged-first : judged (firstFault limits old new rows (search .done)) ≡ cond (all sound (search .done)) 0 21
+  judged-first : judged (firstFault mode limits old new rows (search .done)) ≡ cond (all sound (search .done)) 0 21
   unfolding firstFault faultAt noFault
   judged-first = go (firstNot sound (search .done)) refl
     where
       go : (o : Option Place) → firstNot sound (search .done) ≡ o
-          → judged (faultAt limits old new rows o) ≡ cond (all sound (search .done)) 0 21
+          → judged (faultAt mode limits old new rows o) ≡ cond (all sound (search .done)) 0 21
       go none e = sym (cond-yes (all sound (search .done)) 0 21 (none-fails sound (search .done) e))
       go (some x) e =
           let w = first-fails sound (search .done) x e in
-          rw (ne-eqb (blameIn limits old new rows x .condition) 0 (λ z. w .fails (unblamed x z)))
+          rw (ne-eqb (blameIn mode limits old new rows x .condition) 0 (λ z. w .fails (unblamed x z)))
           (sym (cond-no (all sound (search .done)) 0 21 (λ t. Option·none-ne-some x (sym (all-pass sound (search .done) t) ∙ e))))
 
-  pub number-walked : (r : Walk) → r .whole ≡ noneLeft (search .todo) → faultBy (r .fault) ≡ faultWalked limits old new rows limit
-      → numberOfWalk r ≡ walked limits old new rows limit
+  pub number-walked : (r : Walk) → r .whole ≡ noneLeft (search .todo) → faultBy (r .fault) ≡ faultWalked mode limits old new rows limit
+      → numberOfWalk r ≡ walked mode limits old new rows limit
   unfolding numberOfWalk walked walkNumber noneLeft faultWalked faultAmong faultBy blameBy
   number-walked r whole fault = go (search .todo) whole fault
     where
-      go : (l : List Place) → r .whole ≡ noneLeft l → faultBy (r .fault) ≡ faultAmong limits old new rows (search .done) l
-          → numberOfWalk r ≡ walkNumber limits old new rows (search .done) l
+      go : (l : List Place) → r .whole ≡ noneLeft l → faultBy (r .fault) ≡ faultAmong mode limits old new rows (search .done) l
+          → numberOfWalk r ≡ walkNumber mode limits old new rows (search .done) l
       go [] whole fault = rw whole (ap judged fault ∙ judged-first)
       go (x ∷ l) whole fault = rw whole refl
 
@@ -113,21 +116,21 @@ module _ (old new plan : List ℕ) (admitted : AdmittedPlan old new plan) where
           room = omega arith;
         }
 
-    pub walk-answers : (r : Walk) (between work′ : List Record) → Walked old new plan k limit r work between → work′ ≡ cleared between
-        → WalksPlan old new plan r work work′
-    walk-answers r between work′ w is-cleared =
+    pub walk-answers : (mode : Mode) (r : Walk) (between work′ : List Record) → Walked mode old new plan k limit r work between
+        → work′ ≡ cleared between → WalksPlan mode old new plan r work work′
+    walk-answers mode r between work′ w is-cleared =
         let σ = contractIn old in
         let τ = contractIn new in
         let rows = rowsIn plan in
         let most = limitOf (length work) in
-        let number : walked (alike (admitted .rank)) σ τ rows most ≡ numberOfWalk r =
-        (λ i. walked (alike (rank-is i)) σ τ rows (sym limit-is i))
-        ∙ sym (number-walked (alike k) σ τ rows limit r (w .whole) (w .fault)) in
-        let fault : faultWalked (alike (admitted .rank)) σ τ rows most ≡ faultBy (r .fault) =
-        (λ i. faultWalked (alike (rank-is i)) σ τ rows (sym limit-is i)) ∙ sym (w .fault) in
+        let number : walked (modeOf mode) (alike (admitted .rank)) σ τ rows most ≡ numberOfWalk r =
+        (λ i. walked (modeOf mode) (alike (rank-is i)) σ τ rows (sym limit-is i))
+        ∙ sym (number-walked (modeOf mode) (alike k) σ τ rows limit r (w .whole) (w .fault)) in
+        let fault : faultWalked (modeOf mode) (alike (admitted .rank)) σ τ rows most ≡ faultBy (r .fault) =
+        (λ i. faultWalked (modeOf mode) (alike (rank-is i)) σ τ rows (sym limit-is i)) ∙ sym (w .fault) in
         record {
-          number = admitted .number most ∙ ap (λ (n : ℕ). plain n 0) number;
-          fault = admitted .fault most ∙ fault;
+          number = admitted .number (modeOf mode) most ∙ ap (λ (n : ℕ). plain n 0) number;
+          fault = admitted .fault (modeOf mode) most ∙ fault;
           after = number-after r;
           zero = is-cleared ∙ cleared-same between work (w .size);
         }

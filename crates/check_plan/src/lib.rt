@@ -1,8 +1,10 @@
-// Checking a plan from any hand against two sheets: the answer, what is at fault, and the work table afterwards. Document 02, request 3/13.
+// Checking a plan from any hand against two sheets, in a mode: the answer, what is at fault, and the work table afterwards. Document 02,
+// requests 3/13 and 5/13.
 ghost use mathlib.Core.Path.{_≡_};
 ghost use mathlib.Core.Bool.{true};
 ghost use Rattle.model.specs.Plan.{readPlan};
 ghost use Rattle.sheet.specs.Whole.{IsSheet};
+ghost use Rattle.moves.specs.Modes.{modeOf};
 ghost use Rattle.plan.specs.Layout.{isSome};
 ghost use Rattle.table.specs.Records.{blank};
 ghost use Rattle.connect.specs.Answers.{answerOf};
@@ -70,54 +72,57 @@ fn rank_of(plan: &[u8]) -> u8
 
 // The walk of the pairs that the rows of an admitted plan reach, after which each record is zero.
 fn walk_admitted(
+    mode: moves::Mode,
     old: &[u8],
     new: &[u8],
     plan: &[u8],
     work: &mut [table::Record],
 ) -> edits_walk::Walk
     requires admitted { ⌜ AdmittedPlan (now old) (now new) (now plan) ⌝ }
-    ensures walks { λ r. ⌜ WalksPlan (now (old .entry)) (now (new .entry)) (now (plan .entry)) r
+    ensures walks { λ r. ⌜ WalksPlan mode (now (old .entry)) (now (new .entry)) (now (plan .entry)) r
         (now (work .entry)) (now (work .exit)) ⌝ }
 {
     let k = rank_of(plan);
     let limit = connect::limit_of(work.len());
-    let walk = edits_walk::walk_pairs(old, new, plan, k, limit, work);
+    let walk = edits_walk::walk_pairs(mode, old, new, plan, k, limit, work);
     table::clear(work);
     walk
 }
 
-// Whether a plan still holds for two service sheets: number 0, or the first refusal of 1 to 9, 14, 9 again, 11 and 21.
+// Whether a plan still holds for two service sheets in a mode: number 0, or the first refusal of 1 to 9, 14, 9 again, 11 and 21.
 pub fn check_plan(
+    mode: moves::Mode,
     old: &[u8],
     new: &[u8],
     plan: &[u8],
     work: &mut [table::Record],
 ) -> connect::Answer
     ensures outcome { λ r. ⌜ record { answer = answerOf r; work = now (work .exit) }
-        ≡ checkPlanOf blank (now (old .entry)) (now (new .entry)) (now (plan .entry)) (now (work .entry)) ⌝ }
+        ≡ checkPlanOf blank (modeOf mode) (now (old .entry)) (now (new .entry)) (now (plan .entry)) (now (work .entry)) ⌝ }
 {
     let first = admitted(old, new, plan);
     if first.number != 0 {
         return first;
     }
-    let walk = walk_admitted(old, new, plan, work);
+    let walk = walk_admitted(mode, old, new, plan, work);
     connect::refusal(number_of(walk), 0, 0)
 }
 
 // What is at fault where the same check answers 21; all zero for every other answer.
 pub fn plan_fault(
+    mode: moves::Mode,
     old: &[u8],
     new: &[u8],
     plan: &[u8],
     work: &mut [table::Record],
 ) -> edits_walk::Fault
     ensures outcome { λ r. ⌜ record { fault = faultBy r; work = now (work .exit) }
-        ≡ planFaultOf blank (now (old .entry)) (now (new .entry)) (now (plan .entry)) (now (work .entry)) ⌝ }
+        ≡ planFaultOf blank (modeOf mode) (now (old .entry)) (now (new .entry)) (now (plan .entry)) (now (work .entry)) ⌝ }
 {
     let first = admitted(old, new, plan);
     if first.number != 0 {
         return edits_walk::no_fault();
     }
-    let walk = walk_admitted(old, new, plan, work);
+    let walk = walk_admitted(mode, old, new, plan, work);
     fault_of(walk)
 }

@@ -11,11 +11,11 @@ use lib.Dec.{T}
 use Rattle.model.specs.Lists.{all}
 use Rattle.model.specs.Contract.{Contract, State, state, offers}
 use Rattle.model.specs.Situation.{Situation, Kind, straight, client, service, stray, kindOf, bufferAfter, offered}
-use Rattle.model.specs.Test.{Mode, isSettled, rests, waits, asked, delivered, hope, test}
+use Rattle.model.specs.Test.{Mode, isSettled, asked, delivered, hope, test}
 use Rattle.model.specs.Plan.{Move}
 use Rattle.model.specs.Weak.{Rests, Waits, Hope}
 use Rattle.model.proofs.Lists.{and-both, and-of, all-elim, all-intro, dec-T, if-intro}
-use Rattle.model.proofs.Test.{answered-elim, answered-intro, rests-elim, waits-elim, delivered-elim, delivered-intro}
+use Rattle.model.proofs.Test.{answered-elim, answered-intro, asked-elim, delivered-elim, delivered-intro}
 use Rattle.edits.specs.Places.{Place, codesIn, rowHere}
 use Rattle.edits.specs.Sound.{oldMeets, newMeets, firstNot, Blame, blamed}
 use Rattle.edits.specs.Sound.{keepsBuffer, metByBoth, answeredBy, deliveredBy, soundRow, blameOf, soundPlace, blameIn}
@@ -61,15 +61,9 @@ blamed-none none none none none e = (refl, refl, refl, refl)
 
 -- where a ready set has not what the second part asks, it is asked
 is-asked : (mode : Mode) (p : State) (b A : List ℕ) (S : ℕ) → (T (delivered (asked mode p b) A S) → ⊥) → T (isSettled mode) × Rests p × Waits b
-unfolding delivered asked
+unfolding delivered
 is-asked mode p b A S f =
-    ⊎-elim
-    (λ t.
-    let w = and-both (isSettled mode) (rests p && waits b) t in
-    let v = and-both (rests p) (waits b) (w .1) in
-    (w .0, rests-elim p (v .0), waits-elim b (v .1)))
-    (λ n. absurd (f (if-intro (isSettled mode && (rests p && waits b)) (hope A S) (λ t. absurd (n t)))))
-    (dec-T (isSettled mode && (rests p && waits b)))
+    ⊎-elim (asked-elim mode p b) (λ n. absurd (f (if-intro (asked mode p b) (hope A S) (λ t. absurd (n t))))) (dec-T (asked mode p b))
 
 module _ (mode : Mode) (limits : List ℕ) (old new : Contract) (s : Situation) (A : List ℕ) where
   abbrev keeps : ℕ → Bool
