@@ -1,7 +1,7 @@
 -- The whole outcome of the check and of the fault: what is refused before pairs are counted changes nothing, what is walked leaves every
 -- record zero.
 -- Assumes nothing.
-use mathlib.Core.Path.{_≡_, refl, sym, ap, _∙_}
+use mathlib.Core.Path.{_≡_, refl, sym, ap, subst, _∙_}
 use mathlib.Core.List.{List}
 use Prim.Native.Nat.{ℕ}
 use lib.ListN.{length}
@@ -10,11 +10,12 @@ use Rattle.model.specs.Connect as model
 use Rattle.model.specs.Connect.{refused, limitOf}
 use Rattle.table.specs.declared.Record.{Record}
 use Rattle.table.specs.Records.{blank, cleared}
+use Rattle.model.specs.Test as model-test
 use Rattle.moves.specs.declared.Mode.{Mode}
 use Rattle.moves.specs.Modes.{modeOf}
 use Rattle.connect.specs.Answers.{answerOf, refusing}
 use Rattle.connect.specs.declared.Answer.{Answer}
-use Rattle.edits.specs.Check.{noFault, workAfter, checkPlanOf, planFaultOf}
+use Rattle.edits.specs.Check.{noFault, workAfter, CheckedPlan, BlamedPlan, checkPlanOf, planFaultOf}
 use Rattle.edits_walk.specs.Faults.{faultBy}
 use Rattle.edits_walk.specs.declared.Fault.{Fault}
 use Rattle.edits_walk.specs.declared.Walk.{Walk}
@@ -67,3 +68,14 @@ module _ (mode : Mode) (old new plan : List ℕ) (work : List Record) where
     pub fault-walked : (f : Fault) → f ≡ walk .fault → record { fault = faultBy f; work = work′ } ≡ planFaultOf blank (modeOf mode) old new plan work
     unfolding planFaultOf checkPlanOf
     fault-walked f e = λ i. record { fault = (ap faultBy e ∙ sym (walks .fault)) i; work = zeroed i }
+
+-- ---- by another name of the mode
+
+module _ (old new plan : List ℕ) (work : List Record) (mode : Mode) {named : model-test.Mode} (e : modeOf mode ≡ named) where
+  pub check-named : {c : CheckedPlan Record} → c ≡ checkPlanOf blank (modeOf mode) old new plan work
+      → c ≡ checkPlanOf blank named old new plan work
+  check-named {c} is = subst (λ (named : model-test.Mode). c ≡ checkPlanOf blank named old new plan work) e is
+
+  pub fault-named : {c : BlamedPlan Record} → c ≡ planFaultOf blank (modeOf mode) old new plan work
+      → c ≡ planFaultOf blank named old new plan work
+  fault-named {c} is = subst (λ (named : model-test.Mode). c ≡ planFaultOf blank named old new plan work) e is

@@ -91,7 +91,14 @@ fn record_before() -> table::Record
 }
 
 // Lends so many records, of as many as the stored cases ask for.
-fn lend_records(mode: moves::Mode, k: u8, old: &[u8], new: &[u8], count: usize, plan: &mut [u8]) -> Outcome
+fn lend_records(
+    mode: moves::Mode,
+    k: u8,
+    old: &[u8],
+    new: &[u8],
+    count: usize,
+    plan: &mut [u8],
+) -> Outcome
     requires few { ⌜ count ≤ 5000 ⌝ }
     ensures { λ r. ⌜ Gives (connectOf blank (modeOf mode) k (now (old .entry)) (now (new .entry)) (replicate count before) (now (plan .entry)))
         r (now (plan .exit)) ⌝ }

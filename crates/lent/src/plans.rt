@@ -35,7 +35,13 @@ pub fn fault_counted(fault: edits_walk::Fault, zero: usize, same: usize) -> Faul
 }
 
 // Checks a plan, and counts what became of the lent records, in which every number was 1.
-pub fn check_lent(mode: moves::Mode, old: &[u8], new: &[u8], plan: &[u8], work: &mut [table::Record]) -> Outcome
+pub fn check_lent(
+    mode: moves::Mode,
+    old: &[u8],
+    new: &[u8],
+    plan: &[u8],
+    work: &mut [table::Record],
+) -> Outcome
     ensures { λ r. ⌜ GivesCheck (checkPlanOf blank (modeOf mode) (now (old .entry)) (now (new .entry)) (now (plan .entry)) (now (work .entry))) r ⌝ }
 {
     let answer = check_plan::check_plan(mode, old, new, plan, work);
@@ -45,7 +51,13 @@ pub fn check_lent(mode: moves::Mode, old: &[u8], new: &[u8], plan: &[u8], work: 
 }
 
 // Asks what is at fault in a plan, and counts in the same way.
-pub fn fault_lent(mode: moves::Mode, old: &[u8], new: &[u8], plan: &[u8], work: &mut [table::Record]) -> FaultOutcome
+pub fn fault_lent(
+    mode: moves::Mode,
+    old: &[u8],
+    new: &[u8],
+    plan: &[u8],
+    work: &mut [table::Record],
+) -> FaultOutcome
     ensures { λ r. ⌜ GivesFault (planFaultOf blank (modeOf mode) (now (old .entry)) (now (new .entry)) (now (plan .entry)) (now (work .entry))) r ⌝ }
 {
     let fault = check_plan::plan_fault(mode, old, new, plan, work);

@@ -19,6 +19,7 @@ use Rattle.connect.proofs.connect.Met as connect-thm
 use Rattle.connect.specs.Answers.{answerOf}
 use Rattle.model.specs.Connect.{connectOf}
 use Rattle.table.specs.Records.{blank}
+use Rattle.model.specs.Test.{paper}
 use Rattle.table.proofs.Record as Record-row
 use Rattle.table.specs.declared.Record.{Record}
 use Rattle.connect.proofs.Answer as Answer-row
@@ -78,7 +79,7 @@ module _ {M : Type 1} (𝓤 : URA M) (H : Heap 𝓤) (A : Atoms 𝓤) (W : Given
   Ends = walkOf 𝓤 H A this.ended stayed (this.clauses 𝓤 H A mem run) .post (((κ-old, (κ-new, (κ-work, (κ-plan, tt)))), (q-old, (q-new, (q-work, (q-plan, tt)))), tt, args, machine), tt)
 
   -- what is had at an exit
-  exits : (r : Answer) (work′ : List Record) (plan′ : List ℕ) (is-res : Is Answer-row.the-row r (Answer-laws.lowered r ∷ [])) (long-work : length work′ ≡ length work) (long-plan : length plan′ ≡ length plan) (said : record { answer = answerOf r; plan = plan′; work = work′ } ≡ connectOf blank k (old) (new) (work) (plan)) → ent 𝓤 (⋆ 𝓤 H A (‵ (ShrSlice (named 0) κ-old u8 .own (lentAt b-old o-old γ-old old) (s-old ∷ [])) ∷ ‵ (flft κ-old q-old) ∷ ‵ (ShrSlice (named 1) κ-new u8 .own (lentAt b-new o-new γ-new new) (s-new ∷ [])) ∷ ‵ (flft κ-new q-new) ∷ ‵ (MutSlice (named 2) κ-work Record-row.the-row .own (lentAt b-work o-work γ-work work′) (s-work ∷ [])) ∷ ‵ (flft κ-work q-work) ∷ ‵ (MutSlice (named 3) κ-plan u8 .own (lentAt b-plan o-plan γ-plan plan′) (s-plan ∷ [])) ∷ ‵ (flft κ-plan q-plan) ∷ [])) (Ends (Answer-laws.lowered r))
+  exits : (r : Answer) (work′ : List Record) (plan′ : List ℕ) (is-res : Is Answer-row.the-row r (Answer-laws.lowered r ∷ [])) (long-work : length work′ ≡ length work) (long-plan : length plan′ ≡ length plan) (said : record { answer = answerOf r; plan = plan′; work = work′ } ≡ connectOf blank paper k (old) (new) (work) (plan)) → ent 𝓤 (⋆ 𝓤 H A (‵ (ShrSlice (named 0) κ-old u8 .own (lentAt b-old o-old γ-old old) (s-old ∷ [])) ∷ ‵ (flft κ-old q-old) ∷ ‵ (ShrSlice (named 1) κ-new u8 .own (lentAt b-new o-new γ-new new) (s-new ∷ [])) ∷ ‵ (flft κ-new q-new) ∷ ‵ (MutSlice (named 2) κ-work Record-row.the-row .own (lentAt b-work o-work γ-work work′) (s-work ∷ [])) ∷ ‵ (flft κ-work q-work) ∷ ‵ (MutSlice (named 3) κ-plan u8 .own (lentAt b-plan o-plan γ-plan plan′) (s-plan ∷ [])) ∷ ‵ (flft κ-plan q-plan) ∷ [])) (Ends (Answer-laws.lowered r))
   exits r work′ plan′ is-res long-work long-plan said =
       qed W (‵ (ShrSlice (named 0) κ-old u8 .own (lentAt b-old o-old γ-old old) (s-old ∷ [])) ∷ ‵ (flft κ-old q-old) ∷ ‵ (ShrSlice (named 1) κ-new u8 .own (lentAt b-new o-new γ-new new) (s-new ∷ [])) ∷ ‵ (flft κ-new q-new) ∷ ‵ (MutSlice (named 2) κ-work Record-row.the-row .own (lentAt b-work o-work γ-work work′) (s-work ∷ [])) ∷ ‵ (flft κ-work q-work) ∷ ‵ (MutSlice (named 3) κ-plan u8 .own (lentAt b-plan o-plan γ-plan plan′) (s-plan ∷ [])) ∷ ‵ (flft κ-plan q-plan) ∷ []) ∵
       suffices ! _ (ends-at 𝓤 H A this.ended stayed (this.clauses 𝓤 H A mem run) W (((κ-old, (κ-new, (κ-work, (κ-plan, tt)))), (q-old, (q-new, (q-work, (q-plan, tt)))), tt, args, machine), tt) (Answer-laws.lowered r) r (tt, (tt, (tt, (work′, (plan′, tt))))) (tt, (tt, (tt, (long-work, (long-plan, tt)))))) $ says ! said $

@@ -2,11 +2,16 @@
 -- The step of a call of `lent::connect_lent` in a walk.
 -- Assumes nothing.
 use Rattle.walks.proofs.Logic.{_≡_, refl, sym, ap, subst, ℕ, _<_, _^_, List, [], _∷_, length, URA, Place, Operand, Body, seq, call, named, w8, Val, vint, SProp, ent, id⊢, Lft, Share, ftrue, flft, Memory, Routine, Heap, Env, Calls, Loops, Atoms, Fun, fact, Given, Goal, Soaks, Item, Go, Sq, Post, runs, lands, settles, ‵, raw, _⊛_, some, later, ⋆, _$_, _∵_, !, qed, cut, move, drop, use1, split, join, pick, fsplit, fjoin, feqL, frame, await, done, Opds, FmC, Is, shows, RefT, MutSlice, ShrSlice, finally, uint-makes, u8, only, owned, heard, peeks, nothing, tripleOf, Contract, Triple, calls-at, calls-at-last, ensured, lasts}
+use denote.Enum.Laws as EL
 use Rattle.lent.proofs.connect_lent as callee
 use Rattle.lent.proofs.connect_lent.Symbol.{name as #lent·connect-lent}
 use Rattle.lent.specs.Gives.{Gives}
 use Rattle.model.specs.Connect.{connectOf}
 use Rattle.table.specs.Records.{blank}
+use Rattle.moves.specs.Modes.{modeOf}
+use Rattle.moves.proofs.Mode as Mode-row
+use Rattle.moves.proofs.Mode.Laws as Mode-laws
+use Rattle.moves.specs.declared.Mode.{Mode}
 use Rattle.table.proofs.Record as Record-row
 use Rattle.table.specs.declared.Record.{Record}
 use Rattle.lent.proofs.Outcome as Outcome-row
@@ -16,30 +21,30 @@ use Rattle.lent.specs.declared.Outcome.{Outcome}
 abbrev pub connect-lent-contract : {M : Type 1} (𝓤 : URA M) (H : Heap 𝓤) (A : Atoms 𝓤) (mem : Memory → SProp 𝓤) (run : Routine → Fun 𝓤) → Contract 𝓤
 connect-lent-contract 𝓤 H A mem run = tripleOf 𝓤 H A callee.signature (callee.spec 𝓤 H A mem run)
 
-module _ {M : Type 1} (𝓤 : URA M) (H : Heap 𝓤) (A : Atoms 𝓤) (W : Given 𝓤 H A) (mem : Memory → SProp 𝓤) (run : Routine → Fun 𝓤) (k : ℕ) (κ-old : Lft) (q-old : Share) (old : RefT (List ℕ)) (s-old : Val) (κ-new : Lft) (q-new : Share) (new : RefT (List ℕ)) (s-new : Val) (κ-work : Lft) (q-work : Share) (work : RefT (List Record)) (s-work : Val) (κ-plan : Lft) (q-plan : Share) (plan : RefT (List ℕ)) (s-plan : Val) where
+module _ {M : Type 1} (𝓤 : URA M) (H : Heap 𝓤) (A : Atoms 𝓤) (W : Given 𝓤 H A) (mem : Memory → SProp 𝓤) (run : Routine → Fun 𝓤) (mode : Mode) (k : ℕ) (κ-old : Lft) (q-old : Share) (old : RefT (List ℕ)) (s-old : Val) (κ-new : Lft) (q-new : Share) (new : RefT (List ℕ)) (s-new : Val) (κ-work : Lft) (q-work : Share) (work : RefT (List Record)) (s-work : Val) (κ-plan : Lft) (q-plan : Share) (plan : RefT (List ℕ)) (s-plan : Val) where
   abbrev pub bound : connect-lent-contract 𝓤 H A mem run .Ghost
-  bound = (((κ-old, (κ-new, (κ-work, (κ-plan, tt)))), (q-old, (q-new, (q-work, (q-plan, tt)))), tt, (k, (old, (new, (work, (plan, tt))))), (vint w8 k ∷ [], (s-old ∷ [], (s-new ∷ [], (s-work ∷ [], (s-plan ∷ [], tt)))))), tt)
+  bound = (((κ-old, (κ-new, (κ-work, (κ-plan, tt)))), (q-old, (q-new, (q-work, (q-plan, tt)))), tt, (mode, (k, (old, (new, (work, (plan, tt)))))), (Mode-laws.lowered mode ∷ [], (vint w8 k ∷ [], (s-old ∷ [], (s-new ∷ [], (s-work ∷ [], (s-plan ∷ [], tt))))))), tt)
 
-  goes : (k < 2 ^ 8) → ent 𝓤 (⋆ 𝓤 H A (‵ (flft κ-old q-old) ∷ ‵ (ShrSlice (named 0) κ-old u8 .own old (s-old ∷ [])) ∷ ‵ (flft κ-new q-new) ∷ ‵ (ShrSlice (named 1) κ-new u8 .own new (s-new ∷ [])) ∷ ‵ (flft κ-work q-work) ∷ ‵ (MutSlice (named 2) κ-work Record-row.the-row .own work (s-work ∷ [])) ∷ ‵ (flft κ-plan q-plan) ∷ ‵ (MutSlice (named 3) κ-plan u8 .own plan (s-plan ∷ [])) ∷ [])) (connect-lent-contract 𝓤 H A mem run .pre bound)
-  goes fits-k =
+  goes : (Is Mode-row.the-row mode (Mode-laws.lowered mode ∷ [])) → (k < 2 ^ 8) → ent 𝓤 (⋆ 𝓤 H A (‵ (flft κ-old q-old) ∷ ‵ (ShrSlice (named 0) κ-old u8 .own old (s-old ∷ [])) ∷ ‵ (flft κ-new q-new) ∷ ‵ (ShrSlice (named 1) κ-new u8 .own new (s-new ∷ [])) ∷ ‵ (flft κ-work q-work) ∷ ‵ (MutSlice (named 2) κ-work Record-row.the-row .own work (s-work ∷ [])) ∷ ‵ (flft κ-plan q-plan) ∷ ‵ (MutSlice (named 3) κ-plan u8 .own plan (s-plan ∷ [])) ∷ [])) (connect-lent-contract 𝓤 H A mem run .pre bound)
+  goes is-mode fits-k =
       qed W (‵ (flft κ-old q-old) ∷ ‵ (ShrSlice (named 0) κ-old u8 .own old (s-old ∷ [])) ∷ ‵ (flft κ-new q-new) ∷ ‵ (ShrSlice (named 1) κ-new u8 .own new (s-new ∷ [])) ∷ ‵ (flft κ-work q-work) ∷ ‵ (MutSlice (named 2) κ-work Record-row.the-row .own work (s-work ∷ [])) ∷ ‵ (flft κ-plan q-plan) ∷ ‵ (MutSlice (named 3) κ-plan u8 .own plan (s-plan ∷ [])) ∷ []) ∵
-      nothing ! $ move ! (8 ∷ 0 ∷ []) $ fjoin ! $ move ! (6 ∷ 0 ∷ []) $ fjoin ! $ move ! (4 ∷ 0 ∷ []) $ fjoin ! $ move ! (2 ∷ 0 ∷ []) $ fjoin ! $ owned ! u8 (Is u8) (uint-makes 𝓤 H A W w8) k _ (refl, fits-k) $ fjoin ! $ nothing ! $ move ! (5 ∷ 0 ∷ []) $ join ! $ move ! (4 ∷ 0 ∷ []) $ join ! $ move ! (3 ∷ 0 ∷ []) $ join ! $ move ! (2 ∷ 0 ∷ []) $ join ! $ join ! $ frame ! $ done !
+      nothing ! $ move ! (8 ∷ 0 ∷ []) $ fjoin ! $ move ! (6 ∷ 0 ∷ []) $ fjoin ! $ move ! (4 ∷ 0 ∷ []) $ fjoin ! $ move ! (2 ∷ 0 ∷ []) $ fjoin ! $ owned ! u8 (Is u8) (uint-makes 𝓤 H A W w8) k _ (refl, fits-k) $ fjoin ! $ owned ! Mode-row.the-row (Is Mode-row.the-row) (EL.makes Mode-row.the-type Mode-laws.the-plain 𝓤 H A) mode _ is-mode $ fjoin ! $ nothing ! $ move ! (5 ∷ 0 ∷ []) $ join ! $ move ! (4 ∷ 0 ∷ []) $ join ! $ move ! (3 ∷ 0 ∷ []) $ join ! $ move ! (2 ∷ 0 ∷ []) $ join ! $ join ! $ frame ! $ done !
 
   module _ {Γ : List (Item 𝓤)} where
-    after : (goal· : Val → Goal 𝓤 H) → ((w· : Val) → Soaks (goal· w·)) → ((r : Outcome) (work′ : List Record) (plan′ : List ℕ) → (Is Outcome-row.the-row r (Outcome-laws.lowered r ∷ [])) → (length work′ ≡ length (work .now)) → (length plan′ ≡ length (plan .now)) → (Gives (connectOf blank k ((old .now)) ((new .now)) ((work .now)) ((plan .now))) r (plan′)) → Sq W (‵ (flft κ-old q-old) ∷ ‵ (flft κ-new q-new) ∷ ‵ (flft κ-work q-work) ∷ ‵ (finally Record-row.the-row (work .name) work′) ∷ ‵ (flft κ-plan q-plan) ∷ ‵ (finally u8 (plan .name) plan′) ∷ Γ) (goal· (Outcome-laws.lowered r))) → (w· : Val) → Sq W (raw (connect-lent-contract 𝓤 H A mem run .post bound w·) ∷ Γ) (goal· w·)
+    after : (goal· : Val → Goal 𝓤 H) → ((w· : Val) → Soaks (goal· w·)) → ((r : Outcome) (work′ : List Record) (plan′ : List ℕ) → (Is Outcome-row.the-row r (Outcome-laws.lowered r ∷ [])) → (length work′ ≡ length (work .now)) → (length plan′ ≡ length (plan .now)) → (Gives (connectOf blank (modeOf mode) k ((old .now)) ((new .now)) ((work .now)) ((plan .now))) r (plan′)) → Sq W (‵ (flft κ-old q-old) ∷ ‵ (flft κ-new q-new) ∷ ‵ (flft κ-work q-work) ∷ ‵ (finally Record-row.the-row (work .name) work′) ∷ ‵ (flft κ-plan q-plan) ∷ ‵ (finally u8 (plan .name) plan′) ∷ Γ) (goal· (Outcome-laws.lowered r))) → (w· : Val) → Sq W (raw (connect-lent-contract 𝓤 H A mem run .post bound w·) ∷ Γ) (goal· w·)
     after goal· soaks· k· w· =
-        use1 W (later (some (λ (r : Outcome). ((‵ (flft κ-old q-old) ⊛ ‵ (flft κ-new q-new) ⊛ ‵ (flft κ-work q-work) ⊛ ‵ (flft κ-plan q-plan) ⊛ ‵ ftrue) ⊛ ‵ (Outcome-row.the-row .own r (w· ∷ []))) ⊛ raw (ensured 𝓤 H A callee.ended (callee.clauses 𝓤 H A mem run) (κ-old, (κ-new, (κ-work, (κ-plan, tt)))) (k, (old, (new, (work, (plan, tt))))) tt r)))) (id⊢ 𝓤 _) $ await ! (soaks· w·) $ pick ! (λ r. split ! $ move ! (1 ∷ []) $
-        use1 W (some (λ (ws· : Unit {0} × (Unit {0} × (Unit {0} × (List Record × (List ℕ × (Unit {0})))))). ‵ (lasts callee.ended (κ-old, (κ-new, (κ-work, (κ-plan, tt)))) (k, (old, (new, (work, (plan, tt))))) ws·) ⊛ raw (fact 𝓤 (Gives (connectOf blank k ((old .now)) ((new .now)) ((work .now)) ((plan .now))) r ((ws· .1 .1 .1 .1 .0)))))) (id⊢ 𝓤 _) $ pick ! (λ ws·. split ! $ move ! (1 ∷ []) $ heard ! (Gives (connectOf blank k ((old .now)) ((new .now)) ((work .now)) ((plan .now))) r ((ws· .1 .1 .1 .1 .0))) (λ e·.
-        fsplit ! $ drop ! $ fsplit ! $ drop ! $ fsplit ! $ drop ! $ fsplit ! $ fsplit ! $ move ! (1 ∷ []) $ feqL ! (λ l-work. move ! (1 ∷ []) $ fsplit ! $ fsplit ! $ move ! (1 ∷ []) $ feqL ! (λ l-plan. move ! (1 ∷ []) $ drop ! $ move ! (2 ∷ []) $ split ! $ move ! (1 ∷ []) $ peeks ! Outcome-row.the-row (Is Outcome-row.the-row) (shows 𝓤 H A Outcome-row.the-row) r (w· ∷ []) (λ is·. drop ! $ split ! $ move ! (1 ∷ []) $ split ! $ move ! (1 ∷ []) $ split ! $ move ! (1 ∷ []) $ split ! $ move ! (1 ∷ []) $ drop ! $ move ! (3 ∷ 2 ∷ 1 ∷ 5 ∷ 0 ∷ 4 ∷ []) $
-        subst (λ (u· : Val). Sq W (‵ (flft κ-old q-old) ∷ ‵ (flft κ-new q-new) ∷ ‵ (flft κ-work q-work) ∷ ‵ (finally Record-row.the-row (work .name) (ws· .1 .1 .1 .0)) ∷ ‵ (flft κ-plan q-plan) ∷ ‵ (finally u8 (plan .name) (ws· .1 .1 .1 .1 .0)) ∷ Γ) (goal· u·)) (sym (ap only ((Outcome-laws.lowers .val-is) r (w· ∷ []) is·))) (k· r (ws· .1 .1 .1 .0) (ws· .1 .1 .1 .1 .0) (subst (λ (us : List Val). Is Outcome-row.the-row r us) ((Outcome-laws.lowers .val-is) r (w· ∷ []) is·) is·) l-work l-plan e·)))))))
+        use1 W (later (some (λ (r : Outcome). ((‵ (flft κ-old q-old) ⊛ ‵ (flft κ-new q-new) ⊛ ‵ (flft κ-work q-work) ⊛ ‵ (flft κ-plan q-plan) ⊛ ‵ ftrue) ⊛ ‵ (Outcome-row.the-row .own r (w· ∷ []))) ⊛ raw (ensured 𝓤 H A callee.ended (callee.clauses 𝓤 H A mem run) (κ-old, (κ-new, (κ-work, (κ-plan, tt)))) (mode, (k, (old, (new, (work, (plan, tt)))))) tt r)))) (id⊢ 𝓤 _) $ await ! (soaks· w·) $ pick ! (λ r. split ! $ move ! (1 ∷ []) $
+        use1 W (some (λ (ws· : Unit {0} × (Unit {0} × (Unit {0} × (Unit {0} × (List Record × (List ℕ × (Unit {0}))))))). ‵ (lasts callee.ended (κ-old, (κ-new, (κ-work, (κ-plan, tt)))) (mode, (k, (old, (new, (work, (plan, tt)))))) ws·) ⊛ raw (fact 𝓤 (Gives (connectOf blank (modeOf mode) k ((old .now)) ((new .now)) ((work .now)) ((plan .now))) r ((ws· .1 .1 .1 .1 .1 .0)))))) (id⊢ 𝓤 _) $ pick ! (λ ws·. split ! $ move ! (1 ∷ []) $ heard ! (Gives (connectOf blank (modeOf mode) k ((old .now)) ((new .now)) ((work .now)) ((plan .now))) r ((ws· .1 .1 .1 .1 .1 .0))) (λ e·.
+        fsplit ! $ drop ! $ fsplit ! $ drop ! $ fsplit ! $ drop ! $ fsplit ! $ drop ! $ fsplit ! $ fsplit ! $ move ! (1 ∷ []) $ feqL ! (λ l-work. move ! (1 ∷ []) $ fsplit ! $ fsplit ! $ move ! (1 ∷ []) $ feqL ! (λ l-plan. move ! (1 ∷ []) $ drop ! $ move ! (2 ∷ []) $ split ! $ move ! (1 ∷ []) $ peeks ! Outcome-row.the-row (Is Outcome-row.the-row) (shows 𝓤 H A Outcome-row.the-row) r (w· ∷ []) (λ is·. drop ! $ split ! $ move ! (1 ∷ []) $ split ! $ move ! (1 ∷ []) $ split ! $ move ! (1 ∷ []) $ split ! $ move ! (1 ∷ []) $ drop ! $ move ! (3 ∷ 2 ∷ 1 ∷ 5 ∷ 0 ∷ 4 ∷ []) $
+        subst (λ (u· : Val). Sq W (‵ (flft κ-old q-old) ∷ ‵ (flft κ-new q-new) ∷ ‵ (flft κ-work q-work) ∷ ‵ (finally Record-row.the-row (work .name) (ws· .1 .1 .1 .1 .0)) ∷ ‵ (flft κ-plan q-plan) ∷ ‵ (finally u8 (plan .name) (ws· .1 .1 .1 .1 .1 .0)) ∷ Γ) (goal· u·)) (sym (ap only ((Outcome-laws.lowers .val-is) r (w· ∷ []) is·))) (k· r (ws· .1 .1 .1 .1 .0) (ws· .1 .1 .1 .1 .1 .0) (subst (λ (us : List Val). Is Outcome-row.the-row r us) ((Outcome-laws.lowers .val-is) r (w· ∷ []) is·) is·) l-work l-plan e·)))))))
 
     module _ {C : Calls 𝓤 H} {Λ : Loops 𝓤 H} {E· : Env 𝓤 H} {p· : Post 𝓤 H} {d· : Place} {xs· : List Operand} where
-      pub calls-connect-lent : {rest· : Body} → FmC 𝓤 H (W .laws) C → Triple 𝓤 (C #lent·connect-lent) (connect-lent-contract 𝓤 H A mem run) → (k < 2 ^ 8) → Opds (Go {0}) W (raw (connect-lent-contract 𝓤 H A mem run .pre bound) ∷ Γ) E· xs· (vint w8 k ∷ s-old ∷ s-new ∷ s-work ∷ s-plan ∷ [])
-          → ((r : Outcome) (work′ : List Record) (plan′ : List ℕ) → (Is Outcome-row.the-row r (Outcome-laws.lowered r ∷ [])) → (length work′ ≡ length (work .now)) → (length plan′ ≡ length (plan .now)) → (Gives (connectOf blank k ((old .now)) ((new .now)) ((work .now)) ((plan .now))) r (plan′)) → Sq W (‵ (flft κ-old q-old) ∷ ‵ (flft κ-new q-new) ∷ ‵ (flft κ-work q-work) ∷ ‵ (finally Record-row.the-row (work .name) work′) ∷ ‵ (flft κ-plan q-plan) ∷ ‵ (finally u8 (plan .name) plan′) ∷ Γ) (lands C Λ E· d· (Outcome-laws.lowered r) rest· p·)) → Sq W (‵ (flft κ-old q-old) ∷ ‵ (ShrSlice (named 0) κ-old u8 .own old (s-old ∷ [])) ∷ ‵ (flft κ-new q-new) ∷ ‵ (ShrSlice (named 1) κ-new u8 .own new (s-new ∷ [])) ∷ ‵ (flft κ-work q-work) ∷ ‵ (MutSlice (named 2) κ-work Record-row.the-row .own work (s-work ∷ [])) ∷ ‵ (flft κ-plan q-plan) ∷ ‵ (MutSlice (named 3) κ-plan u8 .own plan (s-plan ∷ [])) ∷ Γ) (runs C Λ E· (seq (call #lent·connect-lent xs· d·) rest·) p·)
-      calls-connect-lent {rest·} fm· known· fits-k operands· k· = cut {W = W} (‵ (flft κ-old q-old) ∷ ‵ (ShrSlice (named 0) κ-old u8 .own old (s-old ∷ [])) ∷ ‵ (flft κ-new q-new) ∷ ‵ (ShrSlice (named 1) κ-new u8 .own new (s-new ∷ [])) ∷ ‵ (flft κ-work q-work) ∷ ‵ (MutSlice (named 2) κ-work Record-row.the-row .own work (s-work ∷ [])) ∷ ‵ (flft κ-plan q-plan) ∷ ‵ (MutSlice (named 3) κ-plan u8 .own plan (s-plan ∷ [])) ∷ []) (raw (connect-lent-contract 𝓤 H A mem run .pre bound) ∷ []) Γ (goes fits-k) $
+      pub calls-connect-lent : {rest· : Body} → FmC 𝓤 H (W .laws) C → Triple 𝓤 (C #lent·connect-lent) (connect-lent-contract 𝓤 H A mem run) → (Is Mode-row.the-row mode (Mode-laws.lowered mode ∷ [])) → (k < 2 ^ 8) → Opds (Go {0}) W (raw (connect-lent-contract 𝓤 H A mem run .pre bound) ∷ Γ) E· xs· (Mode-laws.lowered mode ∷ vint w8 k ∷ s-old ∷ s-new ∷ s-work ∷ s-plan ∷ [])
+          → ((r : Outcome) (work′ : List Record) (plan′ : List ℕ) → (Is Outcome-row.the-row r (Outcome-laws.lowered r ∷ [])) → (length work′ ≡ length (work .now)) → (length plan′ ≡ length (plan .now)) → (Gives (connectOf blank (modeOf mode) k ((old .now)) ((new .now)) ((work .now)) ((plan .now))) r (plan′)) → Sq W (‵ (flft κ-old q-old) ∷ ‵ (flft κ-new q-new) ∷ ‵ (flft κ-work q-work) ∷ ‵ (finally Record-row.the-row (work .name) work′) ∷ ‵ (flft κ-plan q-plan) ∷ ‵ (finally u8 (plan .name) plan′) ∷ Γ) (lands C Λ E· d· (Outcome-laws.lowered r) rest· p·)) → Sq W (‵ (flft κ-old q-old) ∷ ‵ (ShrSlice (named 0) κ-old u8 .own old (s-old ∷ [])) ∷ ‵ (flft κ-new q-new) ∷ ‵ (ShrSlice (named 1) κ-new u8 .own new (s-new ∷ [])) ∷ ‵ (flft κ-work q-work) ∷ ‵ (MutSlice (named 2) κ-work Record-row.the-row .own work (s-work ∷ [])) ∷ ‵ (flft κ-plan q-plan) ∷ ‵ (MutSlice (named 3) κ-plan u8 .own plan (s-plan ∷ [])) ∷ Γ) (runs C Λ E· (seq (call #lent·connect-lent xs· d·) rest·) p·)
+      calls-connect-lent {rest·} fm· known· is-mode fits-k operands· k· = cut {W = W} (‵ (flft κ-old q-old) ∷ ‵ (ShrSlice (named 0) κ-old u8 .own old (s-old ∷ [])) ∷ ‵ (flft κ-new q-new) ∷ ‵ (ShrSlice (named 1) κ-new u8 .own new (s-new ∷ [])) ∷ ‵ (flft κ-work q-work) ∷ ‵ (MutSlice (named 2) κ-work Record-row.the-row .own work (s-work ∷ [])) ∷ ‵ (flft κ-plan q-plan) ∷ ‵ (MutSlice (named 3) κ-plan u8 .own plan (s-plan ∷ [])) ∷ []) (raw (connect-lent-contract 𝓤 H A mem run .pre bound) ∷ []) Γ (goes is-mode fits-k) $
           calls-at ! fm· (connect-lent-contract 𝓤 H A mem run) known· bound operands· (λ w·. after (λ u·. lands C Λ E· d· u· rest· p·) (λ u·. tt) k· w·)
 
-      pub calls-connect-lent-last : FmC 𝓤 H (W .laws) C → Triple 𝓤 (C #lent·connect-lent) (connect-lent-contract 𝓤 H A mem run) → (k < 2 ^ 8) → Opds (Go {0}) W (raw (connect-lent-contract 𝓤 H A mem run .pre bound) ∷ Γ) E· xs· (vint w8 k ∷ s-old ∷ s-new ∷ s-work ∷ s-plan ∷ [])
-          → ((r : Outcome) (work′ : List Record) (plan′ : List ℕ) → (Is Outcome-row.the-row r (Outcome-laws.lowered r ∷ [])) → (length work′ ≡ length (work .now)) → (length plan′ ≡ length (plan .now)) → (Gives (connectOf blank k ((old .now)) ((new .now)) ((work .now)) ((plan .now))) r (plan′)) → Sq W (‵ (flft κ-old q-old) ∷ ‵ (flft κ-new q-new) ∷ ‵ (flft κ-work q-work) ∷ ‵ (finally Record-row.the-row (work .name) work′) ∷ ‵ (flft κ-plan q-plan) ∷ ‵ (finally u8 (plan .name) plan′) ∷ Γ) (settles E· d· (Outcome-laws.lowered r) p·)) → Sq W (‵ (flft κ-old q-old) ∷ ‵ (ShrSlice (named 0) κ-old u8 .own old (s-old ∷ [])) ∷ ‵ (flft κ-new q-new) ∷ ‵ (ShrSlice (named 1) κ-new u8 .own new (s-new ∷ [])) ∷ ‵ (flft κ-work q-work) ∷ ‵ (MutSlice (named 2) κ-work Record-row.the-row .own work (s-work ∷ [])) ∷ ‵ (flft κ-plan q-plan) ∷ ‵ (MutSlice (named 3) κ-plan u8 .own plan (s-plan ∷ [])) ∷ Γ) (runs C Λ E· (call #lent·connect-lent xs· d·) p·)
-      calls-connect-lent-last fm· known· fits-k operands· k· = cut {W = W} (‵ (flft κ-old q-old) ∷ ‵ (ShrSlice (named 0) κ-old u8 .own old (s-old ∷ [])) ∷ ‵ (flft κ-new q-new) ∷ ‵ (ShrSlice (named 1) κ-new u8 .own new (s-new ∷ [])) ∷ ‵ (flft κ-work q-work) ∷ ‵ (MutSlice (named 2) κ-work Record-row.the-row .own work (s-work ∷ [])) ∷ ‵ (flft κ-plan q-plan) ∷ ‵ (MutSlice (named 3) κ-plan u8 .own plan (s-plan ∷ [])) ∷ []) (raw (connect-lent-contract 𝓤 H A mem run .pre bound) ∷ []) Γ (goes fits-k) $
+      pub calls-connect-lent-last : FmC 𝓤 H (W .laws) C → Triple 𝓤 (C #lent·connect-lent) (connect-lent-contract 𝓤 H A mem run) → (Is Mode-row.the-row mode (Mode-laws.lowered mode ∷ [])) → (k < 2 ^ 8) → Opds (Go {0}) W (raw (connect-lent-contract 𝓤 H A mem run .pre bound) ∷ Γ) E· xs· (Mode-laws.lowered mode ∷ vint w8 k ∷ s-old ∷ s-new ∷ s-work ∷ s-plan ∷ [])
+          → ((r : Outcome) (work′ : List Record) (plan′ : List ℕ) → (Is Outcome-row.the-row r (Outcome-laws.lowered r ∷ [])) → (length work′ ≡ length (work .now)) → (length plan′ ≡ length (plan .now)) → (Gives (connectOf blank (modeOf mode) k ((old .now)) ((new .now)) ((work .now)) ((plan .now))) r (plan′)) → Sq W (‵ (flft κ-old q-old) ∷ ‵ (flft κ-new q-new) ∷ ‵ (flft κ-work q-work) ∷ ‵ (finally Record-row.the-row (work .name) work′) ∷ ‵ (flft κ-plan q-plan) ∷ ‵ (finally u8 (plan .name) plan′) ∷ Γ) (settles E· d· (Outcome-laws.lowered r) p·)) → Sq W (‵ (flft κ-old q-old) ∷ ‵ (ShrSlice (named 0) κ-old u8 .own old (s-old ∷ [])) ∷ ‵ (flft κ-new q-new) ∷ ‵ (ShrSlice (named 1) κ-new u8 .own new (s-new ∷ [])) ∷ ‵ (flft κ-work q-work) ∷ ‵ (MutSlice (named 2) κ-work Record-row.the-row .own work (s-work ∷ [])) ∷ ‵ (flft κ-plan q-plan) ∷ ‵ (MutSlice (named 3) κ-plan u8 .own plan (s-plan ∷ [])) ∷ Γ) (runs C Λ E· (call #lent·connect-lent xs· d·) p·)
+      calls-connect-lent-last fm· known· is-mode fits-k operands· k· = cut {W = W} (‵ (flft κ-old q-old) ∷ ‵ (ShrSlice (named 0) κ-old u8 .own old (s-old ∷ [])) ∷ ‵ (flft κ-new q-new) ∷ ‵ (ShrSlice (named 1) κ-new u8 .own new (s-new ∷ [])) ∷ ‵ (flft κ-work q-work) ∷ ‵ (MutSlice (named 2) κ-work Record-row.the-row .own work (s-work ∷ [])) ∷ ‵ (flft κ-plan q-plan) ∷ ‵ (MutSlice (named 3) κ-plan u8 .own plan (s-plan ∷ [])) ∷ []) (raw (connect-lent-contract 𝓤 H A mem run .pre bound) ∷ []) Γ (goes is-mode fits-k) $
           calls-at-last ! fm· (connect-lent-contract 𝓤 H A mem run) known· bound operands· (λ w·. after (λ u·. settles E· d· u· p·) (λ u·. tt) k· w·)
