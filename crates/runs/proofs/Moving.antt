@@ -13,7 +13,7 @@ use Rattle.model.proofs.Lists.{is-true, and-both}
 use Rattle.model.proofs.Actions.{partner-action}
 use Rattle.model.proofs.Ranges.{OfAction, kind-action}
 use Rattle.model.proofs.Attempts.{choice-elim}
-use Rattle.model.proofs.Weak.{offers-of}
+use Rattle.model.proofs.Test.{offers-of}
 use Rattle.sheet.specs.Whole.{IsState}
 use Rattle.sheet.specs.Offer.{IsOffered}
 use Rattle.sheet.proofs.SuccessorAt.{successor-state}
