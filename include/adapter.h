@@ -55,9 +55,10 @@ extern "C" {
 /*
  * The number of an answer: 0, or what is wrong. The comments are document 01's, "Given when", and from 17 on document 02's. In a state's row
  * the bits of all masks are tested before the order of any (document 02, request 2/13): where both are wrong the answer is ADAPTER_ACTION.
- * In the paper's mode, 12 is proved to mean that no adapter would do: no relation of definition 3.7 of Padovani 2010 holds the start with
- * this k, and some client that complies with the old contract can hang behind every adapter, a plan or not, that keeps at most k messages of
- * each name and direction and makes none up. In the settled mode it means that the start is removed by the stricter test.
+ * 12 is proved to mean that no adapter would do: no relation of definition 3.7 of Padovani 2010, with what the mode asks besides, holds the
+ * start with this k. There is a client that complies with the old contract and that comes to a bad end behind every adapter, a plan or not,
+ * that keeps at most k messages of each name and direction and makes none up: it can hang, or in the settled mode a message for the service
+ * can be left behind.
  */
 enum adapter_refusal {
     ADAPTER_ACCEPTED = 0,
@@ -72,7 +73,7 @@ enum adapter_refusal {
     ADAPTER_NAMES = 9,       /* the two sheets differ in n, or a checked plan differs from them */
     ADAPTER_RANK = 10,       /* k above 3 */
     ADAPTER_CAPACITY = 11,   /* reached situations, in a check of a plan reached pairs, exceed the lent records or 4,096 */
-    ADAPTER_NO_ADAPTER = 12, /* the start is removed: in the paper's mode, no weak k-subcontract relation holds it */
+    ADAPTER_NO_ADAPTER = 12, /* the start is removed: no weak k-subcontract relation of the mode holds it */
     ADAPTER_ROOM = 13,       /* the plan is longer than the lent plan, or the sheet than the lent output */
     ADAPTER_PLAN = 14,       /* a stepped or checked plan breaks the plan layout */
     ADAPTER_STATE = 15,      /* not a state of the plan */

@@ -196,7 +196,7 @@ pub record AllServed (mode : Mode) (limits : List ℕ) (old new : Contract) : Ty
   pub offer : Strategy
   pub serves : (user : Contract) → Complies user old → Serves mode limits user old new offer
 
--- Theorem 3.8, and proposition 3.6 with it: each complying client is served exactly if some relation of definition 3.7 holds the start, and
+-- Theorem 3.8, and proposition 3.6 with it: each complying client is served exactly if some such relation holds the start, and
 -- then one strategy serves them all.
 abbrev pub GameDecides : Type 1
 GameDecides =
