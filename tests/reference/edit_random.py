@@ -133,20 +133,25 @@ def edited_more(chance):
             yield framed(f"edited {i}, {records} records for {pairs}", old, new, plan, records)
 
 
-def struck_too_many(chance):
+def struck_until_unsound(chance, made, mode, wanted):
     """Moves struck out one after the other: the last plan that still holds,
-    and the first that does not."""
+    and the first that does not; of systems that `made` gives, for a mode."""
     found = 0
-    while found < 70:
-        old, new, plan = system(chance, 3)
+    while found < wanted:
+        old, new, plan = made(chance, 3)
         before = plan
         while plan.rows != [[]] * len(plan.rows):
             before, plan = plan, strike(chance, plan)
-            if number_of(PAPER, old, new, plan) == 21:
+            if number_of(mode, old, new, plan) == 21:
                 found += 1
-                yield framed(f"holds {found}", old, new, before)
-                yield framed(f"one move less {found}", old, new, plan)
+                yield framed(f"holds {found}", old, new, before, mode=mode)
+                yield framed(f"one move less {found}", old, new, plan, mode=mode)
                 break
+
+
+def struck_too_many(chance):
+    """Of any systems, in the paper's mode."""
+    yield from struck_until_unsound(chance, system, PAPER, 70)
 
 
 def still_sound(chance):

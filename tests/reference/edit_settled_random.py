@@ -12,6 +12,7 @@ from .edit_random import (
     redirect,
     split_state,
     strike,
+    struck_until_unsound,
     system,
 )
 from .edits import codes_over, framed
@@ -74,19 +75,8 @@ def edited_more(chance):
 
 
 def struck_too_many(chance):
-    """Moves struck out one after the other: the last plan that still holds,
-    and the first that does not."""
-    found = 0
-    while found < 25:
-        old, new, plan = ending_system(chance, 3)
-        before = plan
-        while plan.rows != [[]] * len(plan.rows):
-            before, plan = plan, strike(chance, plan)
-            if number_of(SETTLED, old, new, plan) == 21:
-                found += 1
-                yield framed(f"holds {found}", old, new, before, mode=SETTLED)
-                yield framed(f"one move less {found}", old, new, plan, mode=SETTLED)
-                break
+    """Of systems whose old contract may end, in the settled mode."""
+    yield from struck_until_unsound(chance, ending_system, SETTLED, 25)
 
 
 def undelivered(chance):

@@ -174,7 +174,8 @@ fn unanswered(old: &[u8], new: &[u8], p: u8, q: u8, present: moves::Present) -> 
 // The first ready set of state q of the new contract with no action that can be moved with the service alone.
 fn without_hope(new: &[u8], q: u8, present: moves::Present) -> Blame
     requires { ⌜ IsState (now new) q ⌝ }
-    ensures { λ r. ⌜ r ≡ blameFrom (blamed none none none (firstNot (hope (codesOf present)) (state (contractIn (now (new .entry))) q .ready))) ⌝ }
+    ensures { λ r. ⌜ r ≡ blameFrom (blamed none none none (firstNot (hope (codesOf present))
+        (state (contractIn (now (new .entry))) q .ready))) ⌝ }
 {
     let count = sheet::ready_count(new, q);
     let mut place: u8 = 0;

@@ -1,7 +1,8 @@
 // Pairs connected with records and plan bytes lent, and what the call left of them, for the test program pair_cases. A case is the number
 // of lent records (16 bits), that of lent plan bytes (16 bits), the mode (0 the paper's, any other number settled), and the connecting
-// program's input: k, the first sheet behind its length, and the second. Its line: number, sheet, state; situations, plan states, rounds; plan length; digest of the lent plan; lent records that
-// are zero, and lent records that are as they were. The module plans has the like for edit_cases.
+// program's input: k, the first sheet behind its length, and the second. Its line: number, sheet, state; situations, plan states, rounds;
+// plan length; digest of the lent plan; lent records that are zero, and lent records that are as they were. The module plans has the like
+// for edit_cases.
 mod left;
 mod plans;
 
@@ -52,7 +53,8 @@ fn connect_lent(
     work: &mut [table::Record],
     plan: &mut [u8],
 ) -> Outcome
-    ensures { λ r. ⌜ Gives (connectOf blank (modeOf mode) k (now (old .entry)) (now (new .entry)) (now (work .entry)) (now (plan .entry)))
+    ensures { λ r. ⌜ Gives
+        (connectOf blank (modeOf mode) k (now (old .entry)) (now (new .entry)) (now (work .entry)) (now (plan .entry)))
         r (now (plan .exit)) ⌝ }
 {
     let answer = connect::connect_mode(mode, k, old, new, work, plan);
@@ -100,7 +102,8 @@ fn lend_records(
     plan: &mut [u8],
 ) -> Outcome
     requires few { ⌜ count ≤ 5000 ⌝ }
-    ensures { λ r. ⌜ Gives (connectOf blank (modeOf mode) k (now (old .entry)) (now (new .entry)) (replicate count before) (now (plan .entry)))
+    ensures { λ r. ⌜ Gives
+        (connectOf blank (modeOf mode) k (now (old .entry)) (now (new .entry)) (replicate count before) (now (plan .entry)))
         r (now (plan .exit)) ⌝ }
 {
     let y = record_before();

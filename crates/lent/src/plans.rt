@@ -1,8 +1,8 @@
 // Plans from any hand checked with records lent, and what each call left of them, for the test program edit_cases. A case is the number of
-// lent records (16 bits), the mode (0 the paper's, any other number settled), the old sheet behind its length, the new one behind its length,
-// and the plan. Its line, of the check: number,
-// sheet, state; lent records that are zero, and lent records that are as they were. Then of the fault, with records lent anew: condition,
-// code, ready set, plan state; fourteen counts; old state, new state; again records that are zero, and that are as they were.
+// lent records (16 bits), the mode (0 the paper's, any other number settled), the old sheet behind its length, the new one behind its
+// length, and the plan. Its line, of the check: number, sheet, state; lent records that are zero, and lent records that are as they were.
+// Then of the fault, with records lent anew: condition, code, ready set, plan state; fourteen counts; old state, new state; again records
+// that are zero, and that are as they were.
 ghost use mathlib.Core.Path.{_≡_};
 ghost use Prim.Native.Nat.{_≤_};
 ghost use lib.ListN.{length, replicate};
@@ -42,7 +42,8 @@ pub fn check_lent(
     plan: &[u8],
     work: &mut [table::Record],
 ) -> Outcome
-    ensures { λ r. ⌜ GivesCheck (checkPlanOf blank (modeOf mode) (now (old .entry)) (now (new .entry)) (now (plan .entry)) (now (work .entry))) r ⌝ }
+    ensures { λ r. ⌜ GivesCheck
+        (checkPlanOf blank (modeOf mode) (now (old .entry)) (now (new .entry)) (now (plan .entry)) (now (work .entry))) r ⌝ }
 {
     let answer = check_plan::check_plan(mode, old, new, plan, work);
     let zero = count_records(work, 0);
@@ -58,7 +59,8 @@ pub fn fault_lent(
     plan: &[u8],
     work: &mut [table::Record],
 ) -> FaultOutcome
-    ensures { λ r. ⌜ GivesFault (planFaultOf blank (modeOf mode) (now (old .entry)) (now (new .entry)) (now (plan .entry)) (now (work .entry))) r ⌝ }
+    ensures { λ r. ⌜ GivesFault
+        (planFaultOf blank (modeOf mode) (now (old .entry)) (now (new .entry)) (now (plan .entry)) (now (work .entry))) r ⌝ }
 {
     let fault = check_plan::plan_fault(mode, old, new, plan, work);
     let zero = count_records(work, 0);
