@@ -41,7 +41,7 @@ old-is-sheet old new pair is-pair is-good = both-sheets 0 0 old new _ (good-both
 module _ (old new plan : List ℕ) (pair : Pair) (is-pair : pair ≡ pairOf (readBoth 0 0 old new)) (r : Answer) where
   -- a refusal of the sheets
   pub admits-sheets : (number sheet state offset : ℕ) → pair ≡ P.Refused number sheet state offset
-      → answerOf r ≡ refusing number sheet state → AdmitsPlan old new plan r
+      → answerOf r ≡ refusing number sheet state offset → AdmitsPlan old new plan r
   unfolding verdictOf faultOf refused refusing
   admits-sheets number sheet state offset is-refused a =
       let read = refused-both 0 0 old new number sheet state offset pair is-pair is-refused in
@@ -73,7 +73,7 @@ module _ (old new plan : List ℕ) (pair : Pair) (is-pair : pair ≡ pairOf (rea
     fault-is mode limit = ap (λ (b : Reading Refusal Both). faultOf mode limit b (readPlan plan)) read-good
 
     -- a refusal of the plan or of its names
-    refused-plan : (number : ℕ) → answerOf r ≡ refusing number 0 0 → (number ≡ 9) ⊎ (number ≡ 14)
+    refused-plan : (number : ℕ) → answerOf r ≡ refusing number 0 0 0 → (number ≡ 9) ⊎ (number ≡ 14)
         → ((mode : Mode) (limit : ℕ) → planNumber mode limit sheets (readPlan plan) ≡ number)
         → ((mode : Mode) (limit : ℕ) → planFault mode limit sheets (readPlan plan) ≡ noFault)
         → AdmitsPlan old new plan r
@@ -109,7 +109,7 @@ module _ (old new plan : List ℕ) (pair : Pair) (is-pair : pair ≡ pairOf (rea
           fault = λ mode limit. fault-is mode limit ∙ rw (reads, names, rows-are) refl;
         }
 
-    pub admits-plan : (number : ℕ) → number ≡ numberOfPlan (contractIn old .n) (readPlan plan) → answerOf r ≡ refusing number 0 0
+    pub admits-plan : (number : ℕ) → number ≡ numberOfPlan (contractIn old .n) (readPlan plan) → answerOf r ≡ refusing number 0 0 0
         → AdmitsPlan old new plan r
     unfolding numberOfPlan planNumber planFault refusing
     admits-plan number is a = go (readPlan plan) refl is

@@ -57,12 +57,12 @@ module _ (mode : Mode) (old new plan : List ℕ) (work : List Record) where
         let same : verdict .number ≡ numberOfWalk walk = ap (λ (v : Refusal). v .number) (walks .number) in
         rw (same, walks .after) (walks .zero)
 
-    pub check-walked : {number : ℕ} (r : Answer) → number ≡ numberOfWalk walk → answerOf r ≡ refusing number 0 0
+    pub check-walked : {number : ℕ} (r : Answer) → number ≡ numberOfWalk walk → answerOf r ≡ refusing number 0 0 0
         → record { answer = answerOf r; work = work′ } ≡ checkPlanOf blank (modeOf mode) old new plan work
     unfolding checkPlanOf refused refusing plain
     check-walked r is a =
         let answer : answerOf r ≡ refused verdict .answer =
-        a ∙ ap (λ (n : ℕ). refusing n 0 0) is ∙ ap (λ (v : Refusal). refused v .answer) (sym (walks .number)) in
+        a ∙ ap (λ (n : ℕ). refusing n 0 0 0) is ∙ ap (λ (v : Refusal). refused v .answer) (sym (walks .number)) in
         λ i. record { answer = answer i; work = zeroed i }
 
     pub fault-walked : (f : Fault) → f ≡ walk .fault → record { fault = faultBy f; work = work′ } ≡ planFaultOf blank (modeOf mode) old new plan work

@@ -34,8 +34,8 @@ fn admitted(old: &[u8], new: &[u8], plan: &[u8]) -> connect::Answer
     ensures admits { λ r. ⌜ AdmitsPlan (now (old .entry)) (now (new .entry)) (now (plan .entry)) r ⌝ }
 {
     match pair::check_pair(0, 0, old, new) {
-        Pair::Refused(number, sheet, state, offset) => connect::refusal(number, sheet, state),
-        Pair::Good => connect::refusal(number_before(old, plan), 0, 0),
+        Pair::Refused(number, sheet, state, offset) => connect::refusal(number, sheet, state, offset),
+        Pair::Good => connect::refusal(number_before(old, plan), 0, 0, 0),
     }
 }
 
@@ -105,7 +105,7 @@ pub fn check_plan(
         return first;
     }
     let walk = walk_admitted(mode, old, new, plan, work);
-    connect::refusal(number_of(walk), 0, 0)
+    connect::refusal(number_of(walk), 0, 0, 0)
 }
 
 // What is at fault where the same check answers 21; all zero for every other answer.

@@ -9,7 +9,7 @@ use lib.Dec.{T, eqb, leb}
 use lib.ListN.{length}
 use borrow.Author.Tests.{le-leb, lt-leb, eq-eqb, leb-true, eqb-true}
 use Rattle.model.specs.Sheet.{Trailer, trailer, refusal, then, plain}
-use Rattle.sheet.proofs.Reading.{both-true}
+use Rattle.model.proofs.Lists.{both-true}
 use Rattle.choosing.specs.Rows.{ChoosingRow, rowIn}
 use Rattle.choosing.specs.Read.{choosingTrailer, orRefused, readChoosing, framed}
 use Rattle.choosing.specs.Tables.{Tabled}

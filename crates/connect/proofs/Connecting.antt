@@ -84,7 +84,7 @@ module _ (k : ℕ) (old new : List ℕ) (limit count : ℕ) (ys ys′ : List Rec
 
   -- 11
   pub writes-over : (mode : Mode) → count ≡ 0 → limit ≡ limitOf (length ys) → (r : Answer) (plan : List ℕ)
-      → answerOf r ≡ refusing 11 0 0
+      → answerOf r ≡ refusing 11 0 0 0
       → Writes (connectedFrom mode k old new (length ys) (length plan)) r plan plan
   unfolding connected found refused plain refusing
   writes-over mode none l r plan a =

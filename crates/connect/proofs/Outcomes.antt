@@ -39,7 +39,7 @@ not-cleared number l h = rw (ne-eqb number 0 (λ e. omega arith), le-ltb 10 numb
 
 module _ (old new : List ℕ) (k : ℕ) (pair : Pair) (is-pair : pair ≡ pairOf (readBoth 0 0 old new)) (r : Answer) where
   pub pair-checked : (number sheet state offset : ℕ) → pair ≡ P.Refused number sheet state offset
-      → answerOf r ≡ refusing number sheet state → Admits k old new r
+      → answerOf r ≡ refusing number sheet state offset → Admits k old new r
   unfolding outcomeOf ranked refused refusing
   pair-checked number sheet state offset is-refused a =
       let read = refused-both 0 0 old new number sheet state offset pair is-pair is-refused in
@@ -55,7 +55,7 @@ module _ (old new : List ℕ) (k : ℕ) (pair : Pair) (is-pair : pair ≡ pairOf
       }
 
   module _ (is-good : pair ≡ P.Good) where
-    pub rank-checked : 3 < k → answerOf r ≡ refusing 10 0 0 → Admits k old new r
+    pub rank-checked : 3 < k → answerOf r ≡ refusing 10 0 0 0 → Admits k old new r
     unfolding outcomeOf ranked refused plain refusing
     rank-checked high a =
         let e : r .number ≡ 10 = number-is r _ a in
@@ -71,7 +71,7 @@ module _ (old new : List ℕ) (k : ℕ) (pair : Pair) (is-pair : pair ≡ pairOf
           uncleared = λ _. not-cleared (r .number) (omega arith) (omega arith);
         }
 
-    pub good-checked : k ≤ 3 → answerOf r ≡ refusing 0 0 0 → Admits k old new r
+    pub good-checked : k ≤ 3 → answerOf r ≡ refusing 0 0 0 0 → Admits k old new r
     unfolding outcomeOf ranked refused refusing
     good-checked low a =
         let e : r .number ≡ 0 = number-is r _ a in

@@ -20,6 +20,7 @@ answerOf r =
       number = r .number;
       sheet = r .sheet;
       state = r .state;
+      offset = r .offset;
       situations = r .situations;
       states = r .states;
       rounds = r .rounds;
@@ -27,13 +28,23 @@ answerOf r =
     }
 
 -- "Counts (situations, plan states, rounds): 0 0 0 for 1 to 11": the answer of such a refusal
-unfoldable pub refusing : (number sheet state : ℕ) → model.Answer
-refusing number sheet state = record { number = number; sheet = sheet; state = state; situations = 0; states = 0; rounds = 0; length = 0 }
+unfoldable pub refusing : (number sheet state offset : ℕ) → model.Answer
+refusing number sheet state offset =
+    record {
+      number = number;
+      sheet = sheet;
+      state = state;
+      offset = offset;
+      situations = 0;
+      states = 0;
+      rounds = 0;
+      length = 0;
+    }
 
 -- an answer given after situations were counted
 unfoldable pub counting : (number situations states rounds length : ℕ) → model.Answer
 counting number situations states rounds length =
-    record { number = number; sheet = 0; state = 0; situations = situations; states = states; rounds = rounds; length = length }
+    record { number = number; sheet = 0; state = 0; offset = 0; situations = situations; states = states; rounds = rounds; length = length }
 
 -- what follows for two sheets that are admitted, with so many records and so much room lent
 abbrev pub connectedFrom : Mode → (k : ℕ) (old new : List ℕ) (records room : ℕ) → Outcome

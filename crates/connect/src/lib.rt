@@ -15,12 +15,14 @@ ghost use Rattle.connect.specs.Answers.{answerOf, refusing, counting, co
 ghost use Rattle.connect.specs.Related.{relatedFrom, emittedFrom};
 use pair::Pair;
 
-// What connecting answers: number, sheet and state of a refusal; situations, plan states and rounds; the plan's length.
+// What connecting answers: number, sheet and state of a refusal, and the offset of the byte at fault; situations, plan states and rounds;
+// the plan's length.
 #[repr(C)]
 pub struct Answer {
     pub number: u8,
     pub sheet: u8,
     pub state: u8,
+    pub offset: u16,
     pub situations: u16,
     pub states: u16,
     pub rounds: u16,
@@ -28,13 +30,14 @@ pub struct Answer {
 }
 
 // A refusal before situations are counted, or for their number: the counts are 0 0 0.
-pub fn refusal(number: u8, sheet: u8, state: u8) -> Answer
-    ensures { λ r. ⌜ answerOf r ≡ refusing number sheet state ⌝ }
+pub fn refusal(number: u8, sheet: u8, state: u8, offset: u16) -> Answer
+    ensures { λ r. ⌜ answerOf r ≡ refusing number sheet state offset ⌝ }
 {
     Answer {
         number: number,
         sheet: sheet,
         state: state,
+        offset: offset,
         situations: 0,
         states: 0,
         rounds: 0,
@@ -51,6 +54,7 @@ fn with_counts(number: u8, situations: usize, states: u16, rounds: u16, length: 
         number: number,
         sheet: 0,
         state: 0,
+        offset: 0,
         situations: situations as u16,
         states: states,
         rounds: rounds,
@@ -87,12 +91,12 @@ fn checked(k: u8, old: &[u8], new: &[u8]) -> Answer
     ensures admits { λ r. ⌜ Admits k (now (old .entry)) (now (new .entry)) r ⌝ }
 {
     match pair::check_pair(0, 0, old, new) {
-        Pair::Refused(number, sheet, state, offset) => refusal(number, sheet, state),
+        Pair::Refused(number, sheet, state, offset) => refusal(number, sheet, state, offset),
         Pair::Good => {
             if 3 < k {
-                return refusal(10, 0, 0);
+                return refusal(10, 0, 0, 0);
             }
-            refusal(0, 0, 0)
+            refusal(0, 0, 0, 0)
         }
     }
 }
@@ -166,7 +170,7 @@ fn connect_checked(
     let limit = limit_of(work.len());
     let count = reached::explore(old, new, k, limit, work);
     if count == 0 {
-        return refusal(11, 0, 0);
+        return refusal(11, 0, 0, 0);
     }
     relate(mode, k, old, new, work, plan, wide(count))
 }

@@ -12,10 +12,9 @@ use Rattle.model.specs.Bytes.{byte}
 use Rattle.model.specs.Lists.{all, Ascending}
 use Rattle.model.specs.Situation.{straight, client, service, stray, kindOf, codes}
 use Rattle.model.specs.Plan.{Move, namedBelow, ascending, goodRow, readMoves}
-use Rattle.model.proofs.Lists.{and-both, all-elim, getD-mem}
+use Rattle.model.proofs.Lists.{and-both, both-true, all-elim, getD-mem}
 use Rattle.model.proofs.Ordered.{Within, row-ascends}
 use Rattle.model.proofs.Situation.{code-straight, code-client, code-service}
-use Rattle.sheet.proofs.Reading.{both-true}
 use Rattle.plan.specs.declared.Row.{Row}
 use Rattle.edits.specs.Places.{codesIn}
 use Rattle.edits_rows.specs.Rows.{InRow}

@@ -111,7 +111,7 @@ module _ {R : Type 0} (blank : R) (mode : Mode) (k : ℕ) (old new : List ℕ) (
     decides-cut : (search .todo ≢ []) → connected passes k σ τ limit (length plan) ≡ refused (plain 11 0) → Goal
     unfolding refused plain
     decides-cut n e =
-        let q : answer ≡ record { number = 11; sheet = 0; state = 0; situations = 0; states = 0; rounds = 0; length = 0 } = answer-is plan (refused (plain 11 0)) e in
+        let q : answer ≡ record { number = 11; sheet = 0; state = 0; offset = 0; situations = 0; states = 0; rounds = 0; length = 0 } = answer-is plan (refused (plain 11 0)) e in
         let is-11 : answer .number ≡ 11 = ap (λ (x : Answer). x .number) q in
         record {
           capacity = ((λ z. cut-exceeds k σ τ limit n), (λ x. is-11));

@@ -29,12 +29,14 @@ pub mod Run
 pub mod PlanRuns
 pub mod History
 pub mod Refusals
+pub mod AtFault
 pub mod AmendedMasks
 pub mod AmendedRows
 pub mod AmendedStates
 pub mod Amended
 pub mod Connect
 pub mod Unused
+pub mod Carried
 pub mod Demand1
 pub mod Demand2
 pub mod Accepted

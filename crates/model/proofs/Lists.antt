@@ -2,7 +2,7 @@
 -- test.
 -- Assumes nothing.
 use mathlib.Core.Path.{_≡_, refl, sym, ap, subst, subst⁻¹, _∙_}
-use mathlib.Core.Bool.{Bool, true, false, not, _&&_, _||_, cond}
+use mathlib.Core.Bool.{Bool, true, false, not, _&&_, _||_, cond, false≢true}
 use mathlib.Core.Logic.{_⊎_, inl, inr, ⊎-elim}
 use mathlib.Core.Option.{Option, none, some, Option·some-injective, Option·none-ne-some, bind}
 use mathlib.Core.List.{List, [], _∷_, _++_, map, List·Memᴰ, List·Memᴰ·head, List·Memᴰ·tail, List·Memᴰ·cases-cons, List·Memᴰ·not-nil, List·Memᴰ·append-cases, Memᴰ·append-left, Memᴰ·append-right, Memᴰ·map, Memᴰ·of-map}
@@ -35,6 +35,11 @@ and-both false b t = absurd t
 pub and-of : (a b : Bool) → T a → T b → T (a && b)
 and-of true b s t = t
 and-of false b s t = absurd s
+
+-- the same of tests as equations
+pub both-true : (a b : Bool) → (a && b) ≡ true → (a ≡ true) × (b ≡ true)
+both-true true b e = (refl, e)
+both-true false b e = absurd (false≢true e)
 
 pub is-true : (b : Bool) → T b → b ≡ true
 is-true true t = refl
@@ -285,6 +290,31 @@ module _ {A : Type 0} (p : A → Bool) where
           → (length l ≤ place p l → List·Memᴰ x l → p x ≡ false) → p x ≡ false
       go true e c rest = absurd (omega arith)
       go false e c rest = ⊎-elim (λ same. ap p same ∙ e) (rest (omega arith)) (List·Memᴰ·cases-cons m)
+
+  -- where there is one, the element there passes, and none before it does
+  pub place-passes : (l : List A) (d : A) → place p l < length l → p (getD l (place p l) d) ≡ true
+  unfolding place
+  place-passes [] d h = absurd (omega arith)
+  place-passes (x ∷ l) d h = go (p x) refl h (place-passes l d)
+    where
+      go : (passes : Bool) → p x ≡ passes → cond passes zero (suc (place p l)) < suc (length l)
+          → (place p l < length l → p (getD l (place p l) d) ≡ true) → p (getD (x ∷ l) (cond passes zero (suc (place p l))) d) ≡ true
+      go true e h rest = e
+      go false e h rest = rest (omega arith)
+
+  pub place-first : (l : List A) (d : A) (i : ℕ) → i < place p l → p (getD l i d) ≡ false
+  unfolding place
+  place-first [] d i h = absurd (omega arith)
+  place-first (x ∷ l) d zero h = go (p x) refl h
+    where
+      go : (passes : Bool) → p x ≡ passes → 0 < cond passes zero (suc (place p l)) → p x ≡ false
+      go true e h = absurd (omega arith)
+      go false e h = e
+  place-first (x ∷ l) d (suc i) h = go (p x) h (place-first l d i)
+    where
+      go : (passes : Bool) → suc i < cond passes zero (suc (place p l)) → (i < place p l → p (getD l i d) ≡ false) → p (getD l i d) ≡ false
+      go true h rest = absurd (omega arith)
+      go false h rest = rest (omega arith)
 
 -- ---- `through`
 

@@ -32,7 +32,7 @@ module _ {E : Type 0} (P : E → Type 0) where
   pub only-elim : {A : Type 0} (r : Reading E A) (e : E) → OnlyRefused P r → r ≡ refusal e → P e
   only-elim r e o q = subst (OnlyRefused P) q o
 
-only-weaker : {E A : Type 0} (P Q : E → Type 0) → ((e : E) → P e → Q e) → (r : Reading E A) → OnlyRefused P r → OnlyRefused Q r
+pub only-weaker : {E A : Type 0} (P Q : E → Type 0) → ((e : E) → P e → Q e) → (r : Reading E A) → OnlyRefused P r → OnlyRefused Q r
 only-weaker P Q h (good a) o = tt
 only-weaker P Q h (refusal e) o = h e o
 

@@ -13,12 +13,13 @@ use Rattle.model.specs.Search.{searchFrom, member}
 use Rattle.model.specs.Rounds.{Sifted, sifted}
 use Rattle.model.specs.Plan.{Move, planRows, planBytes}
 
--- what connecting answers: number, sheet and state; "Counts (situations, plan states, rounds)"; "the plan's length, 0 on
--- a refusal"
+-- what connecting answers: number, sheet and state, with "the offset of the byte at fault ... beside the state" (document 02, request
+-- 6/13); "Counts (situations, plan states, rounds)"; "the plan's length, 0 on a refusal"
 pub record Answer : Type 0 where
   pub number : ℕ
   pub sheet : ℕ
   pub state : ℕ
+  pub offset : ℕ
   pub situations : ℕ
   pub states : ℕ
   pub rounds : ℕ
@@ -33,7 +34,17 @@ pub record Outcome : Type 0 where
 unfoldable pub refused : Refusal → Outcome
 refused r =
     record {
-      answer = record { number = r .number; sheet = r .sheet; state = r .state; situations = 0; states = 0; rounds = 0; length = 0 };
+      answer =
+          record {
+            number = r .number;
+            sheet = r .sheet;
+            state = r .state;
+            offset = r .offset;
+            situations = 0;
+            states = 0;
+            rounds = 0;
+            length = 0;
+          };
       bytes = [];
     }
 
@@ -41,7 +52,17 @@ refused r =
 unfoldable pub counted : (number situations states rounds : ℕ) → List ℕ → Outcome
 counted number situations states rounds bytes =
     record {
-      answer = record { number = number; sheet = 0; state = 0; situations = situations; states = states; rounds = rounds; length = length bytes };
+      answer =
+          record {
+            number = number;
+            sheet = 0;
+            state = 0;
+            offset = 0;
+            situations = situations;
+            states = states;
+            rounds = rounds;
+            length = length bytes;
+          };
       bytes = bytes;
     }
 

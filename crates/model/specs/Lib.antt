@@ -15,5 +15,6 @@ pub mod Weak
 pub mod Demands
 pub mod Amended
 pub mod AmendedCases
+pub mod AtFault
 pub mod Cases
 pub mod RunCases

@@ -3,8 +3,6 @@
 use mathlib.Core.Path.{_≡_, refl, sym, _∙_}
 use mathlib.Core.Bool.{Bool, true, false, not, cond, _&&_}
 use mathlib.Core.Option.{Option, none, some, Option·map}
-use Prim.Native.Nat.{ℕ}
-use native.Mathlib.Omega.{arith}
 use borrow.Author.Tests.{not-true, not-false}
 use Rattle.plan.specs.Layout.{isSome}
 
@@ -14,15 +12,6 @@ passed e h = sym e ∙ not-false _ h
 
 pub failed : {r g : Bool} → r ≡ g → not r ≡ true → g ≡ false
 failed e h = sym e ∙ not-true _ h
-
--- two tests that were both passed
-pub and-left : (s t : Bool) → (s && t) ≡ true → s ≡ true
-and-left true t e = refl
-and-left false t e = e
-
-pub and-right : (s t : Bool) → (s && t) ≡ true → t ≡ true
-and-right true t e = e
-and-right false t e = absurd (let z : _≡_ {A = ℕ} 0 1 = cc in omega arith)
 
 pub is-some-cond : {A : Type 0} (t : Bool) (o : Option A) → isSome (cond t o none) ≡ (t && isSome o)
 unfolding isSome

@@ -11,8 +11,9 @@ use lib.Dec.{eqb, leb}
 use borrow.Author.Tests.{le-leb, lt-leb, eq-eqb, ne-eqb, eqb-true, leb-true}
 use Rattle.model.specs.Bytes.{byte, dword}
 use Rattle.model.specs.Plan.{goodRow, readMoves, readRows}
+use Rattle.model.proofs.Lists.{both-true}
 use Rattle.plan.specs.Layout.{isSome, goodPlace}
-use Rattle.plan.proofs.Answers.{and-left, and-right, is-some-cond, is-some-map}
+use Rattle.plan.proofs.Answers.{is-some-cond, is-some-map}
 
 module _ (b : List ℕ) (index count n : ℕ) where
   module _ (p i : ℕ) where
@@ -35,8 +36,8 @@ module _ (b : List ℕ) (index count n : ℕ) where
     place-within e =
         let says = eqb (dword b (index + 4 * p)) i in
         let ends = leb (i + 1 + 3 * byte b i) index in
-        let w = and-left (says && ends) (goodRow n count (readMoves b (i + 1) (byte b i))) e in
-        (eqb-true _ _ (and-left says ends w), leb-true _ _ (and-right says ends w))
+        let w = both-true says ends (both-true (says && ends) (goodRow n count (readMoves b (i + 1) (byte b i))) e .0) in
+        (eqb-true _ _ (w .0), leb-true _ _ (w .1))
 
   rows-left : (left p i : ℕ) (good : Bool) → goodPlace b index count n p i ≡ good
       → isSome (readRows b index count n (suc left) p i) ≡ cond good

@@ -10,8 +10,9 @@ use lib.Dec.{eqb, leb}
 use borrow.Author.Tests.{le-leb, lt-leb, eq-eqb, ne-eqb, eqb-true}
 use Rattle.model.specs.Bytes.{byte, word, dword}
 use Rattle.model.specs.Plan.{Plan, readRows, readWith, readPlan}
+use Rattle.model.proofs.Lists.{both-true}
 use Rattle.plan.specs.Layout.{isSome, figuresInRange}
-use Rattle.plan.proofs.Answers.{and-left, and-right, is-some-cond, is-some-map}
+use Rattle.plan.proofs.Answers.{is-some-cond, is-some-map}
 
 regroup : (a b c d e : Bool) → (a && (b && (c && (d && e)))) ≡ (a && (b && (c && d)) && e)
 regroup false b c d e = refl
@@ -42,8 +43,8 @@ module _ (b : List ℕ) (index count n k : ℕ) where
   with-room e =
       let long = leb 8 (length b) in
       let filled = eqb (index + 4 * count + 8) (length b) in
-      let w = and-left (long && (figuresInRange count n k && filled)) (isSome (readRows b index count n count 0 0)) (sym tests ∙ e) in
-      eqb-true _ _ (and-right (figuresInRange count n k) filled (and-right long (figuresInRange count n k && filled) w))
+      let w = both-true (long && (figuresInRange count n k && filled)) (isSome (readRows b index count n count 0 0)) (sym tests ∙ e) .0 in
+      eqb-true _ _ (both-true (figuresInRange count n k) filled (both-true long (figuresInRange count n k && filled) w .1) .1)
 
 pub plan-short : (b : List ℕ) → length b < 8 → false ≡ isSome (readPlan b)
 unfolding readPlan

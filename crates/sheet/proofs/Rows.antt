@@ -12,10 +12,10 @@ use Rattle.model.specs.Lists.{keep, place}
 use Rattle.model.specs.Bytes.{byte, word}
 use Rattle.model.specs.Contract.{State, nowhere, actions, offersIn}
 use Rattle.model.specs.Sheet.{good, Trailer, Row, strayBit, wordsFrom, masksFrom, successorsFrom, rowWith, rowAt, statesFrom}
-use Rattle.model.proofs.Lists.{getD-mem, none-passes}
+use Rattle.model.proofs.Lists.{both-true, getD-mem, none-passes}
 use Rattle.model.proofs.RowMasks.{length-words, words-place}
 use Rattle.model.proofs.Sheet.{good-injective, then-good}
-use Rattle.sheet.proofs.Reading.{check-true, both-true}
+use Rattle.sheet.proofs.Reading.{check-true}
 
 -- masks stand at i
 record MasksStand (b : List ℕ) (t : Trailer) (i count : ℕ) (masks : List ℕ) : Type 0 where

@@ -11,12 +11,13 @@ use borrow.Author.Tests.{leb-true, eqb-true}
 use Rattle.model.specs.Bytes.{word}
 use Rattle.model.specs.Contract.{State, state, nowhere, has, offers}
 use Rattle.model.specs.Sheet.{Reading, Fault, Trailer, Sheet, good, trailer, goodTrailer, rowStart, readSheet, sheetOf, contractIn, roleIn}
+use Rattle.model.proofs.Lists.{both-true}
 use Rattle.model.proofs.Sheet.{WellFormed, good-injective, then-good, sheet-well-formed}
 use Rattle.sheet.specs.Whole.{IsSheet, IsState}
 use Rattle.sheet.specs.Offer.{offerIn}
 use Rattle.sheet.specs.declared.Offer.{Offer}
 use Rattle.sheet.proofs.Union.{has-union}
-use Rattle.sheet.proofs.Reading.{check-true, both-true}
+use Rattle.sheet.proofs.Reading.{check-true}
 use Rattle.sheet.proofs.Rows.{RowStands, StatesStand, states-stand}
 
 -- a trailer whose numbers are in range
