@@ -34,7 +34,12 @@ fn admitted(old: &[u8], new: &[u8], plan: &[u8]) -> connect::Answer
     ensures admits { λ r. ⌜ AdmitsPlan (now (old .entry)) (now (new .entry)) (now (plan .entry)) r ⌝ }
 {
     match pair::check_pair(0, 0, old, new) {
-        Pair::Refused(number, sheet, state, offset) => connect::refusal(number, sheet, state, offset),
+        Pair::Refused(number, sheet, state, offset) => connect::refusal(
+            number,
+            sheet,
+            state,
+            offset,
+        ),
         Pair::Good => connect::refusal(number_before(old, plan), 0, 0, 0),
     }
 }

@@ -224,7 +224,7 @@ pub record BothRead (role₁ role₂ : ℕ) (b₁ b₂ : List ℕ) (w : Both) : 
   pub in-role₂ : sheet₂ .role ≡ role₂
   pub same-names : w .one .n ≡ w .two .n
 
-place-good : (place : ℕ) (r : Reading Fault Sheet) {s : Sheet} → inPlace place r ≡ good s → r ≡ good s
+pub place-good : (place : ℕ) (r : Reading Fault Sheet) {s : Sheet} → inPlace place r ≡ good s → r ≡ good s
 unfolding inPlace
 place-good place (good s) p = ap good (good-injective p)
 place-good place (refusal f) p = absurd (never-good p)

@@ -104,7 +104,7 @@ pub fn role(b: &[u8]) -> u8
 }
 
 // Where the row of state q begins.
-fn row_start(b: &[u8], q: u8) -> usize
+pub fn row_start(b: &[u8], q: u8) -> usize
     requires { ⌜ IsState (now b) q ⌝ }
     ensures { λ r. ⌜ r ≡ rowStart (now (b .entry)) q ⌝ }
 {
