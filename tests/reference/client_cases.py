@@ -1,7 +1,8 @@
 """Clients to be checked against services.
 
 A case is: the client sheet's length (16 bits), that sheet, and the service
-sheet to the end.  Its line is: number, sheet, state, and 1 for yes or 0.
+sheet to the end.  Its line is: number, sheet, state, offset, and 1 for yes
+or 0.
 """
 
 from .chance import Chance
@@ -10,6 +11,7 @@ from .compliance import check_client
 from .framing import Framed, measured
 from .pair_cases import small_shape
 from .random_contracts import mirrored, random_contract, resembling
+from .sheet_faults import faulty_pairs
 from .sheet_random import careless_sheet, changed, untidy_sheet
 from .sheets import CLIENT, SERVICE, write_sheet
 
@@ -30,8 +32,8 @@ def expected(data):
 
 
 def group(data):
-    number, _, _, complies = verdict(data)
-    return ("yes" if complies else "no") if number == 0 else f"{number:2}"
+    found = verdict(data)
+    return ("yes" if found.complies else "no") if found.number == 0 else f"{found.number:2}"
 
 
 def small_system(chance):
@@ -72,5 +74,5 @@ def cases():
         yield framed(f"client untidy {i}", untidy_sheet(chance), service)
         yield framed(f"service untidy {i}", client, untidy_sheet(chance))
         yield framed(f"two untidy sheets {i}", untidy_sheet(chance), untidy_sheet(chance))
-    for edge in edges():
+    for edge in (*edges(), *faulty_pairs(CLIENT, SERVICE)):
         yield framed(*edge)
