@@ -3,6 +3,7 @@
 ghost use mathlib.Core.Path.{_≡_};
 ghost use Prim.Native.Nat.{_<_, _≤_};
 ghost use lib.ListN.{length};
+use crate::lines::print_behind;
 
 // Gives the output at a place what it holds there before the call.
 fn fill_at(output: &mut [u8], place: usize)
@@ -21,40 +22,12 @@ fn fill(output: &mut [u8]) {
     }
 }
 
-// Prints a byte that others follow.
-fn print_byte(byte: u8) {
-    framing::print_figure(byte as u64);
-}
-
-// Prints the last byte of the line.
-fn print_last_byte(byte: u8) {
-    framing::print_last(byte as u64);
-}
-
-// Prints the bytes to the end of the line.
-fn print_bytes(bytes: &[u8])
-    requires { ⌜ 1 ≤ length (now bytes) ⌝ }
-{
-    let last = bytes.len() - 1;
-    let mut i: usize = 0;
-    while i < last {
-        print_byte(bytes[i]);
-        i += 1;
-    }
-    print_last_byte(bytes[last]);
-}
-
 // Prints the line of an answer, with the output behind it.
 fn print_line(answer: nodes::SheetAnswer, output: &[u8]) {
     framing::print_figure(answer.number as u64);
     framing::print_figure(answer.sheet as u64);
     framing::print_figure(answer.state as u64);
-    if output.len() == 0 {
-        framing::print_last(answer.length as u64);
-        return;
-    }
-    framing::print_figure(answer.length as u64);
-    print_bytes(output);
+    print_behind(answer.length as u64, output);
 }
 
 // Converts a choosing sheet, and prints the line.

@@ -1,4 +1,5 @@
-// A case is a client sheet behind its length, and a service sheet. Its line: number, sheet and state of the refusal, and 1 for yes or 0.
+// A case is a client sheet behind its length, and a service sheet. Its line: number, sheet, state and offset of the refusal, and 1 for yes
+// or 0.
 pub fn answer(case: &[u8]) {
     if case.len() < 2 {
         return;
@@ -8,5 +9,6 @@ pub fn answer(case: &[u8]) {
     framing::print_figure(answer.number as u64);
     framing::print_figure(answer.sheet as u64);
     framing::print_figure(answer.state as u64);
+    framing::print_figure(answer.offset as u64);
     framing::print_last(if answer.yes { 1 } else { 0 });
 }

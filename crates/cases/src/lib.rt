@@ -2,6 +2,8 @@
 // each; its README has the form of every kind.
 mod choosing_sheets;
 mod clients;
+mod lines;
+mod rows;
 mod sheets;
 mod steps;
 
@@ -14,6 +16,7 @@ pub enum Kind {
     Runs,
     Choosing,
     Edits,
+    Rows,
 }
 
 fn answer(kind: Kind, case: &[u8]) {
@@ -25,6 +28,7 @@ fn answer(kind: Kind, case: &[u8]) {
         Kind::Runs => runs::answer(case),
         Kind::Choosing => choosing_sheets::answer(case),
         Kind::Edits => lent::answer_plan(case),
+        Kind::Rows => rows::answer(case),
     }
 }
 

@@ -1,5 +1,4 @@
 pub mod Cases
-pub mod Standing
 pub mod Parts
 pub mod Read
 pub mod Written

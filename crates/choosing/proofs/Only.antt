@@ -14,7 +14,7 @@ use Rattle.nodes.proofs.Parts.{length-index, length-layout}
 use Rattle.choosing.specs.Rows.{Choosing}
 use Rattle.choosing.specs.Bytes.{choosingRowBytes, choosingBytes}
 use Rattle.choosing.specs.Read.{readChoosing}
-use Rattle.choosing.proofs.Standing.{at-none, at-cons, at-append, at-16, at-whole}
+use Rattle.nodes.proofs.Standing.{at-none, at-cons, at-append, at-16, at-whole}
 use Rattle.choosing.proofs.Read.{choosing-read}
 
 -- the last six bytes are the trailer that is read

@@ -21,7 +21,7 @@ use Rattle.nodes.proofs.Bytes.{At, at-cast, length-16}
 use Rattle.choosing.specs.Rows.{ChoosingRow, GroupFormed, RowFormed}
 use Rattle.choosing.specs.Bytes.{groupBytes, groupsBytes, choosingRowBytes}
 use Rattle.choosing.specs.Read.{Part, targetsFrom, groupAt, groupsFrom, hidingAt, openAt, choosingRowAt, rowsFrom}
-use Rattle.choosing.proofs.Standing.{at-none, at-cons, at-append, at-16}
+use Rattle.nodes.proofs.Standing.{at-none, at-cons, at-append, at-16}
 
 -- ---- masks
 

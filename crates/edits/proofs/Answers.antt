@@ -1,12 +1,12 @@
 -- Any bytes are answered, and the work table ends as the number says: `check-answers`. What is refused before pairs are counted, in order:
--- `check-refuses`.
+-- `check-refuses`. What the answer carries of a sheet's refusal: `check-carries`.
 -- Assumes nothing.
 use mathlib.Core.Path.{_≡_, refl}
 use mathlib.Core.Bool.{Bool, true, false, cond, _||_}
 use mathlib.Core.Logic.{_⊎_, inl, inr, ⊎-elim}
 use mathlib.Core.Option.{Option, none, some}
-use mathlib.Core.List.{map}
-use Prim.Native.Nat.{ℕ, _≤_}
+use mathlib.Core.List.{List, map}
+use Prim.Native.Nat.{ℕ, _≤_, _<_}
 use native.Mathlib.Omega.{arith}
 use lib.ListN.{length}
 use lib.Dec.{T, eqb, eqb→eq}
@@ -15,10 +15,12 @@ use Rattle.model.specs.Sheet.{Reading, good, refusal, Refusal, plain, Both, rea
 use Rattle.model.specs.Test.{Mode}
 use Rattle.model.specs.Plan.{Plan, readPlan}
 use Rattle.model.specs.Connect.{limitOf, refused}
+use Rattle.model.specs.AtFault.{Carries, inAnswer}
+use Rattle.model.proofs.Carried.{plain-carries, both-carries, refused-carries}
 use Rattle.model.proofs.Lists.{or-cases, cond-yes, cond-no}
 use Rattle.model.proofs.Refusals.{OnlyRefused, InTable, both-numbers}
 use Rattle.edits.specs.Check.{planNumber, verdictOf, afterPairs, workAfter, checkPlanOf}
-use Rattle.edits.specs.Promises.{CheckAnswers, CheckRefuses}
+use Rattle.edits.specs.Promises.{CheckAnswers, CheckRefuses, CheckCarries}
 use Rattle.edits.proofs.Decides.{AfterPairs, walk-number}
 
 -- ---- the number
@@ -84,3 +86,26 @@ check-refuses R blank mode old new plan work =
       of-plan = λ sheets e f. rw (e, f) refl;
       of-names = λ sheets p e f other. rw (e, f, ne-eqb (p .n) (sheets .one .n) other) refl;
     }
+
+-- ---- what it carries
+
+verdict-carries : (mode : Mode) (limit : ℕ) (old new : List ℕ) (r : Reading Refusal Both) → OnlyRefused (Carries old new) r → (o : Option Plan)
+    → Carries old new (verdictOf mode limit r o)
+unfolding verdictOf planNumber
+verdict-carries mode limit old new (refusal r) h o = h
+verdict-carries mode limit old new (good sheets) h none = plain-carries old new 14 0 (inr (omega arith))
+verdict-carries mode limit old new (good sheets) h (some p) =
+    plain-carries old new _ 0
+    (at (eqb (p .n) (sheets .one .n)) _ (walk-number mode _ (sheets .one) (sheets .two) (p .rows) limit))
+  where
+    at : (b : Bool) (number : ℕ) → AfterPairs number → (cond b number 9 ≡ 0) ⊎ (7 < cond b number 9)
+    at true number (inl e) = inl e
+    at true number (inr (inl e)) = inr (omega (arith, e))
+    at true number (inr (inr e)) = inr (omega (arith, e))
+    at false number w = inr (omega arith)
+
+pub check-carries : CheckCarries
+unfolding checkPlanOf
+check-carries R blank mode old new plan work =
+    refused-carries old new _
+    (verdict-carries mode (limitOf (length work)) old new (readBoth 0 0 old new) (both-carries old new 0 0) (readPlan plan))

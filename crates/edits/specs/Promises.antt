@@ -16,6 +16,7 @@ use Rattle.model.specs.Plan.{Move, Plan, readPlan}
 use Rattle.model.specs.Connect.{limitOf, refused, connectOf}
 use Rattle.model.specs.Run.{Attempt}
 use Rattle.model.specs.Weak.{Covered, Hope, Rests, Waits, AsksAt}
+use Rattle.model.specs.AtFault.{Carries, inAnswer}
 use Rattle.model.specs.Demands.{emittedPlan, Related, Runs, Settles}
 use Rattle.edits.specs.Places.{Place, codesIn, rowHere, placesWalked, IsPlace}
 use Rattle.edits.specs.Sound.{oldMeets, newMeets}
@@ -47,6 +48,13 @@ pub record RefusesFirst {R : Type 0} (blank : R) (mode : Mode) (old new plan : L
 
 abbrev pub CheckRefuses : Type 1
 CheckRefuses = (R : Type 0) (blank : R) (mode : Mode) (old new plan : List ℕ) (work : List R) → RefusesFirst blank mode old new plan work
+
+-- "refusals 4 to 7 carry it beside the state, all others 0" (document 02, request 6/13), the offset of the byte at fault: the check passes on
+-- what a sheet is refused for
+abbrev pub CheckCarries : Type 1
+CheckCarries =
+    (R : Type 0) (blank : R) (mode : Mode) (old new plan : List ℕ) (work : List R)
+    → Carries old new (inAnswer (checkPlanOf blank mode old new plan work .answer))
 
 -- ---- the check decides
 

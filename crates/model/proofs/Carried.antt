@@ -31,7 +31,7 @@ module _ (first second : List ℕ) where
       }
 
   -- the refusal of the sheet in a place
-  in-place : (p : ℕ) (b : List ℕ)
+  pub in-place : (p : ℕ) (b : List ℕ)
       → ((r : Refusal) → r .sheet ≡ p → readSheet b ≡ refusal (carriedFault r)
       → ((r .sheet ≡ 1) × (readSheet first ≡ refusal (carriedFault r))) ⊎ ((r .sheet ≡ 2) × (readSheet second ≡ refusal (carriedFault r))))
       → OnlyRefused (Carries first second) (inPlace p (readSheet b))
@@ -63,7 +63,7 @@ module _ (first second : List ℕ) where
 
   -- ---- connecting
 
-  refused-carries : (r : Refusal) → Carries first second r → Carries first second (inAnswer (refused r .answer))
+  pub refused-carries : (r : Refusal) → Carries first second r → Carries first second (inAnswer (refused r .answer))
   unfolding inAnswer refused
   refused-carries r c = c
 

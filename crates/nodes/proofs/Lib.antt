@@ -1,6 +1,7 @@
 pub mod Nodes
 pub mod Words
 pub mod Bytes
+pub mod Standing
 pub mod Parts
 pub mod Sheets
 pub mod Made

@@ -105,7 +105,7 @@ module _ {M : Type 1} (𝓤 : URA M) (H : Heap 𝓤) (A : Atoms 𝓤) (W : Given
       abbrev En : Env 𝓤 H
       En = (Answer-laws.mir, l0) ∷ (Mode-laws.mir, l1) ∷ (τ0, l2) ∷ (τ1, l3) ∷ (τ2, l4) ∷ (τ3, l5) ∷ (Answer-laws.mir, l6) ∷ (Walk-laws.mir, l7) ∷ (tyBool, l8) ∷ (τ4, l9) ∷ (τ5, l10) ∷ ((tyInt w8), l11) ∷ []
 
-      part-7 : (begin : Answer) (is-begin : Is Answer-row.the-row begin (Answer-laws.lowered begin ∷ [])) (begin-is : AdmitsPlan (old) (new) (plan) begin) (good : (begin .number) ≡ 0) (found : Walk) (zeroed : List Record) (is-found : Is Walk-row.the-row found (Walk-laws.lowered found ∷ [])) (same-zeroed : length zeroed ≡ length work) (walks : WalksPlan mode (old) (new) (plan) found (work) (zeroed)) (number : ℕ) (fits-number : number < 2 ^ 8) (number-is : number ≡ numberOfWalk found) (answer : Answer) (is-answer : Is Answer-row.the-row answer (Answer-laws.lowered answer ∷ [])) (answer-is : answerOf answer ≡ refusing number 0 0) → Sq W (‵ (ShrSlice (named 0) κ-old u8 .own (lentAt b-old o-old γ-old old) (s-old ∷ [])) ∷ ‵ (flft κ-old q-old) ∷ ‵ (ShrSlice (named 1) κ-new u8 .own (lentAt b-new o-new γ-new new) (s-new ∷ [])) ∷ ‵ (flft κ-new q-new) ∷ ‵ (ShrSlice (named 2) κ-plan u8 .own (lentAt b-plan o-plan γ-plan plan) (s-plan ∷ [])) ∷ ‵ (flft κ-plan q-plan) ∷ ‵ (MutSlice (named 3) κ-work Record-row.the-row .own (lentAt b-work o-work γ-work zeroed) (s-work ∷ [])) ∷ ‵ (flft κ-work q-work) ∷ empty (tyInt w8) l11 (empty τ5 l10 (empty τ4 l9 (empty tyBool l8 (empty Walk-laws.mir l7 (empty Answer-laws.mir l6 (empty τ3 l5 (empty τ2 l4 (empty τ1 l3 (empty τ0 l2 (empty Mode-laws.mir l1 (full Answer-laws.mir l0 (Answer-laws.lowered answer) ([]))))))))))))) (runs (𝓣 .C) (𝓣 .Λ) En this-mir.t-9 (atRet En Ends))
+      part-7 : (begin : Answer) (is-begin : Is Answer-row.the-row begin (Answer-laws.lowered begin ∷ [])) (begin-is : AdmitsPlan (old) (new) (plan) begin) (good : (begin .number) ≡ 0) (found : Walk) (zeroed : List Record) (is-found : Is Walk-row.the-row found (Walk-laws.lowered found ∷ [])) (same-zeroed : length zeroed ≡ length work) (walks : WalksPlan mode (old) (new) (plan) found (work) (zeroed)) (number : ℕ) (fits-number : number < 2 ^ 8) (number-is : number ≡ numberOfWalk found) (answer : Answer) (is-answer : Is Answer-row.the-row answer (Answer-laws.lowered answer ∷ [])) (answer-is : answerOf answer ≡ refusing number 0 0 0) → Sq W (‵ (ShrSlice (named 0) κ-old u8 .own (lentAt b-old o-old γ-old old) (s-old ∷ [])) ∷ ‵ (flft κ-old q-old) ∷ ‵ (ShrSlice (named 1) κ-new u8 .own (lentAt b-new o-new γ-new new) (s-new ∷ [])) ∷ ‵ (flft κ-new q-new) ∷ ‵ (ShrSlice (named 2) κ-plan u8 .own (lentAt b-plan o-plan γ-plan plan) (s-plan ∷ [])) ∷ ‵ (flft κ-plan q-plan) ∷ ‵ (MutSlice (named 3) κ-work Record-row.the-row .own (lentAt b-work o-work γ-work zeroed) (s-work ∷ [])) ∷ ‵ (flft κ-work q-work) ∷ empty (tyInt w8) l11 (empty τ5 l10 (empty τ4 l9 (empty tyBool l8 (empty Walk-laws.mir l7 (empty Answer-laws.mir l6 (empty τ3 l5 (empty τ2 l4 (empty τ1 l3 (empty τ0 l2 (empty Mode-laws.mir l1 (full Answer-laws.mir l0 (Answer-laws.lowered answer) ([]))))))))))))) (runs (𝓣 .C) (𝓣 .Λ) En this-mir.t-9 (atRet En Ends))
       part-7 begin is-begin begin-is good found zeroed is-found same-zeroed walks number fits-number number-is answer is-answer answer-is =
           returns-within ! Ends refl (look ! 30 refl) $ released ! (‵ (ShrSlice (named 0) κ-old u8 .own (lentAt b-old o-old γ-old old) (s-old ∷ [])) ∷ ‵ (flft κ-old q-old) ∷ ‵ (ShrSlice (named 1) κ-new u8 .own (lentAt b-new o-new γ-new new) (s-new ∷ [])) ∷ ‵ (flft κ-new q-new) ∷ ‵ (ShrSlice (named 2) κ-plan u8 .own (lentAt b-plan o-plan γ-plan plan) (s-plan ∷ [])) ∷ ‵ (flft κ-plan q-plan) ∷ ‵ (MutSlice (named 3) κ-work Record-row.the-row .own (lentAt b-work o-work γ-work zeroed) (s-work ∷ [])) ∷ ‵ (flft κ-work q-work) ∷ []) (valued Answer-laws.mir l0 (Answer-laws.lowered answer) ∷ bare Mode-laws.mir l1 ∷ bare τ0 l2 ∷ bare τ1 l3 ∷ bare τ2 l4 ∷ bare τ3 l5 ∷ bare Answer-laws.mir l6 ∷ bare Walk-laws.mir l7 ∷ bare tyBool l8 ∷ bare τ4 l9 ∷ bare τ5 l10 ∷ bare (tyInt w8) l11 ∷ []) $ by ! (exits answer zeroed is-answer (same-zeroed ∙ refl) (check-walked mode old new plan work walks answer number-is answer-is))
 
@@ -128,8 +128,8 @@ module _ {M : Type 1} (𝓤 : URA M) (H : Heap 𝓤) (A : Atoms 𝓤) (W : Given
           calls-number-of 𝓤 H A W mem run found (fmOf 𝓤 H (W .laws) 𝓣) known-number-of is-found
           (and-then ! (load ! (from ! (stop !)) (look ! 17 refl)) (no-more !)) (λ number fits-number number-is.
           land ! (from ! (stop !)) (init ! 8 refl (tt, record { fits = fits-number })) $
-          calls-refusal 𝓤 H A W mem run number 0 0 (fmOf 𝓤 H (W .laws) 𝓣) known-refusal fits-number (lit< tt) (lit< tt)
-          (and-then ! (load ! (from ! (stop !)) (look ! 9 refl)) (and-then ! (lit ! tt) (and-then ! (lit ! tt) (no-more !)))) (λ answer is-answer answer-is.
+          calls-refusal 𝓤 H A W mem run number 0 0 0 (fmOf 𝓤 H (W .laws) 𝓣) known-refusal fits-number (lit< tt) (lit< tt) (lit< tt)
+          (and-then ! (load ! (from ! (stop !)) (look ! 9 refl)) (and-then ! (lit ! tt) (and-then ! (lit ! tt) (and-then ! (lit ! tt) (no-more !))))) (λ answer is-answer answer-is.
           land ! (from ! (stop !)) (init ! 30 refl (LL.lawful Answer-row.the-type Answer-laws.the-laws 𝓤 H A W .typed answer _ is-answer .0)) $
           forget ! 28 refl $ forget ! 26 refl $ forget ! 24 refl $ forget ! 22 refl $ forget ! 20 refl $ forget ! 18 refl $ forget ! 16 refl $ forget ! 14 refl $ forget ! 12 refl $ forget ! 10 refl $ forget ! 8 refl $ part-7 begin is-begin begin-is good found zeroed is-found same-zeroed walks number fits-number number-is answer is-answer answer-is)))))))))))))
 

@@ -131,8 +131,8 @@ module _ {M : Type 1} (𝓤 : URA M) (H : Heap 𝓤) (A : Atoms 𝓤) (W : Given
           move ! (2 ∷ 4 ∷ 3 ∷ []) $ regain ! tt Record-row.the-row (named 2) κ-work q-work γ-work b-work o-work (length work) work refl ν-3-work δ-3-work found room-work same-found (move ! (5 ∷ 2 ∷ 4 ∷ 3 ∷ 0 ∷ 1 ∷ 6 ∷ 7 ∷ []) $ land ! (from ! (stop !)) (init ! 24 refl (tt, record { fits = fits-count })) $
           assigns ! (bin ! (load ! (from ! (stop !)) (look ! 24 refl)) (lit ! tt) tt) (from ! (stop !)) (init ! 16 refl (tt, tt)) $
           guards ! (load ! (from ! (stop !)) (look ! 16 refl)) (equal count 0) (unequal count 0)
-          (λ none. calls-refusal 𝓤 H A W mem run 11 0 0 (fmOf 𝓤 H (W .laws) 𝓣) known-refusal (lit< tt) (lit< tt) (lit< tt)
-          (and-then ! (lit ! tt) (and-then ! (lit ! tt) (and-then ! (lit ! tt) (no-more !)))) (λ answer is-answer answer-is.
+          (λ none. calls-refusal 𝓤 H A W mem run 11 0 0 0 (fmOf 𝓤 H (W .laws) 𝓣) known-refusal (lit< tt) (lit< tt) (lit< tt) (lit< tt)
+          (and-then ! (lit ! tt) (and-then ! (lit ! tt) (and-then ! (lit ! tt) (and-then ! (lit ! tt) (no-more !))))) (λ answer is-answer answer-is.
           land ! (from ! (stop !)) (init ! 40 refl (LL.lawful Answer-row.the-type Answer-laws.the-laws 𝓤 H A W .typed answer _ is-answer .0)) $
           returns-within ! Ends refl (look ! 40 refl) $ released ! (‵ (ShrSlice (named 0) κ-old u8 .own (lentAt b-old o-old γ-old old) (s-old ∷ [])) ∷ ‵ (flft κ-old q-old) ∷ ‵ (ShrSlice (named 1) κ-new u8 .own (lentAt b-new o-new γ-new new) (s-new ∷ [])) ∷ ‵ (flft κ-new q-new) ∷ ‵ (MutSlice (named 2) κ-work Record-row.the-row .own (lentAt b-work o-work γ-work found) (s-work ∷ [])) ∷ ‵ (flft κ-work q-work) ∷ ‵ (MutSlice (named 3) κ-plan u8 .own (lentAt b-plan o-plan γ-plan plan) (s-plan ∷ [])) ∷ ‵ (flft κ-plan q-plan) ∷ []) (valued Answer-laws.mir l0 (Answer-laws.lowered answer) ∷ valued Mode-laws.mir l1 (Mode-laws.lowered mode) ∷ valued (tyInt w8) l2 (vint w8 k) ∷ valued τ0 l3 (s-old) ∷ valued τ1 l4 (s-new) ∷ valued τ2 l5 (s-work) ∷ valued τ3 l6 (s-plan) ∷ valued (tyInt w64) l7 (vint w64 limit) ∷ valued (tyInt w16) l8 (vint w16 count) ∷ valued (tyInt w64) l9 (vint w64 (length work)) ∷ valued τ4 l10 (vptr b-work o-work) ∷ valued τ5 l11 (s-work) ∷ valued tyBool l12 (vbool (eqb count 0)) ∷ bare τ4 l13 ∷ bare τ5 l14 ∷ bare τ6 l15 ∷ bare τ7 l16 ∷ []) $ by ! (exits answer found plan is-answer (same-found ∙ refl) refl (writes-over k old new limit count work found explored mode none limit-is answer plan answer-is))))
           (λ some-count. assigns ! (addr ! (from ! (fld ! refl (hop ! (look-in ! 30 (sub ! 0 refl (whole !))) (stop !))))) (from ! (stop !)) (init ! 14 refl (tt, tt)) $

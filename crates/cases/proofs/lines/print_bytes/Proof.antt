@@ -1,10 +1,10 @@
--- `cases::choosing_sheets::print_bytes` is safe and ends: the measure is the number of bytes that are left before the last.
+-- `cases::lines::print_bytes` is safe and ends: the measure is the number of bytes that are left before the last.
 -- Assumes nothing.
 use Prim.Native.Nat.{_<_, _≤_, _-_}
 use lib.ListN.{length}
 use borrow.Author.Needs.{needs}
-use Rattle.cases.proofs.choosing_sheets.print_bytes.Statement.{statement}
-use Rattle.cases.proofs.choosing_sheets.print_bytes.Tie as tie
+use Rattle.cases.proofs.lines.print_bytes.Statement.{statement}
+use Rattle.cases.proofs.lines.print_bytes.Tie as tie
 
 abbrev Inv-loop : tie.InvT-loop
 Inv-loop bytes last i₀ i = (i ≤ last) × (last < length bytes)

@@ -3,13 +3,13 @@
 -- Assumes nothing.
 use mathlib.Core.Path.{_≡_, sym, ap, _∙_}
 use mathlib.Core.List.{List, [], _∷_, _++_}
-use Prim.Native.Nat.{ℕ, zero, suc, _+_, _/_, _%_, _<_}
+use Prim.Native.Nat.{ℕ, zero, suc, _+_, _/_, _%_, _≤_, _<_}
 use native.Mathlib.Omega.{arith}
 use native.Mathlib.Nat.{add-zero, zero-add}
-use lib.ListN.{length, getD}
-use lib.Seq.{ext-getD}
+use lib.ListN.{length, getD, take, drop, length-drop}
+use lib.Seq.{ext-getD, getD-take, getD-drop, length-take-le}
 use Rattle.model.specs.Bytes.{byte, word, le16}
 use Rattle.nodes.proofs.Bytes.{At, at-head, at-tail, at-cast}
 
 module _ (b : List ℕ) where
   pub at-none : (i : ℕ) → At b i []
@@ -35,3 +35,10 @@ module _ (b : List ℕ) where
   -- all bytes from the front on
   pub at-whole : (xs : List ℕ) → At b 0 xs → length b ≡ length xs → b ≡ xs
   at-whole xs h e = ext-getD 0 b xs e (λ i l. ap (λ (n : ℕ). getD b n 0) (sym (zero-add i)) ∙ h i (omega arith))
+
+  -- a part of the bytes
+  pub at-part : (i : ℕ) (xs : List ℕ) → At b i xs → i + length xs ≤ length b → take (length xs) (drop i b) ≡ xs
+  at-part i xs h inside =
+      let long : length (take (length xs) (drop i b)) ≡ length xs = length-take-le (length xs) (drop i b) (omega (arith, length-drop i b)) in
+      ext-getD 0 (take (length xs) (drop i b)) xs long
+      (λ j l. getD-take (length xs) (drop i b) j 0 (omega arith) ∙ getD-drop i b j 0 ∙ h j (omega arith))

@@ -1,0 +1,244 @@
+-- What the entries for a row promise: `row-refuses`, `row-hands-back`, `other-not-tested`. A refusal is the first of the reading's tests
+-- that fails; without one the row stands where the index says, byte by byte.
+-- Assumes nothing.
+use mathlib.Core.Path.{_≡_, refl, sym, ap, subst, subst⁻¹, _∙_}
+use mathlib.Core.Bool.{Bool, true, false, cond}
+use mathlib.Core.Logic.{_↔_, _⊎_, inl, inr, ⊎-elim}
+use mathlib.Core.List.{List, [], _∷_, _++_}
+use Prim.Native.Nat.{ℕ, zero, suc, _+_, _*_, _≤_, _<_}
+use native.Mathlib.Omega.{arith}
+use lib.ListN.{length, getD, take, drop}
+use lib.Dec.{eqb, ltb}
+use borrow.Author.Tests.{eq-eqb, ne-eqb, eqb-true, eqb-false}
+use Rattle.model.specs.Bytes.{byte, word, le16}
+use Rattle.model.specs.Contract.{State, state, offers}
+use Rattle.model.specs.Sheet.{Reading, good, refusal, check, then, Fault, Trailer, trailer, Sheet, readSheet, rowStart, Refusal, inPlace, plain}
+use Rattle.model.specs.AtFault.{Carries}
+use Rattle.model.proofs.Refusals.{OnlyRefused, only-check, only-then, only-elim, sheet-numbers}
+use Rattle.model.proofs.Carried.{plain-carries, in-place}
+use Rattle.nodes.specs.SheetBytes.{maskBytes, stateRowBytes}
+use Rattle.nodes.proofs.Bytes.{At, at-cast, length-16}
+use Rattle.nodes.proofs.Sheets.{length-masks, length-row}
+use Rattle.nodes.proofs.Standing.{at-none, at-cons, at-append, at-16, at-part}
+use Rattle.sheet.proofs.Rows.{RowStands}
+use Rattle.sheet.proofs.Whole.{row-of}
+use Rattle.named_row.specs.Row.{Part, namedSheet, rowLength, rowInSheet, rowIn, partOr, rowPartOf, refusalOr, rowRefusalOf, wholeOf, cut}
+use Rattle.named_row.specs.Promises.{RefusesRow, RowRefuses, HandsBack, RowHandsBack, OtherNotTested}
+use Rattle.named_row.proofs.Rows.{Handed, handed}
+use Rattle.named_row.proofs.Parts.{row-inside}
+
+-- ---- the row's own bytes
+
+module _ (b : List ℕ) (small : (i : ℕ) → byte b i < 256) where
+  masks-stand : (i : ℕ) (masks : List ℕ) → ((k : ℕ) → k < length masks → word b (i + 2 * k) ≡ getD masks k 0) → At b i (maskBytes masks)
+  unfolding maskBytes
+  masks-stand i [] h = at-none b i
+  masks-stand i (m ∷ masks) h =
+      at-append b i (le16 m) (maskBytes masks)
+      (at-16 b i m (small i) (small (i + 1)) (let e : i ≡ i + 2 * 0 = omega arith in ap (word b) e ∙ h 0 (omega arith)))
+      (at-cast b (i + 2) (i + length (le16 m)) (maskBytes masks) (omega (arith, length-16 m))
+      (masks-stand (i + 2) masks (λ k l. let e : i + 2 + 2 * k ≡ i + 2 * suc k = omega arith in ap (word b) e ∙ h (suc k) (omega arith))))
+
+  row-stands-own : (t : Trailer) (i : ℕ) (s : State) → RowStands b t i s → At b i (stateRowBytes s)
+  unfolding stateRowBytes byte
+  row-stands-own t i s row =
+      at-cons b i (length (s .ready)) (maskBytes (s .ready) ++ s .successors) (row .count)
+      (at-append b (i + 1) (maskBytes (s .ready)) (s .successors) (masks-stand (i + 1) (s .ready) (row .masks))
+      (at-cast b (i + 1 + 2 * length (s .ready)) (i + 1 + length (maskBytes (s .ready))) (s .successors) (omega (arith, length-masks (s .ready)))
+      (row .successors)))
+
+  -- the part of a state's row has the bytes of that row
+  row-own : (s : Sheet) (q : ℕ) → readSheet b ≡ good s → q < length (s .contract .states)
+      → take (rowLength (state (s .contract) q)) (drop (rowStart b q) b) ≡ stateRowBytes (state (s .contract) q)
+  unfolding rowLength offers
+  row-own s q reads there =
+      let x : State = state (s .contract) q in
+      let row = row-of b s reads q there in
+      let long : length (stateRowBytes x) ≡ rowLength x = omega (arith, length-row x, row .offered) in
+      ap (λ (n : ℕ). take n (drop (rowStart b q) b)) (sym long)
+      ∙ at-part b (rowStart b q) (stateRowBytes x) (row-stands-own (trailer b) (rowStart b q) x row) (omega (arith, row-inside b s q reads there))
+
+-- ---- why there is no row
+
+number-of : (number : ℕ) (r : Refusal) → r ≡ plain number 0 → r .number ≡ number
+unfolding plain
+number-of number r e = ap (λ (x : Refusal). x .number) e
+
+only-both : {E A : Type 0} (P Q : E → Type 0) (r : Reading E A) → OnlyRefused P r → OnlyRefused Q r → OnlyRefused (λ e. P e × Q e) r
+only-both P Q (good a) p q = tt
+only-both P Q (refusal e) p q = (p, q)
+
+module _ (first second : List ℕ) (sheet : ℕ) where
+  -- the number names a sheet
+  abbrev Named : Type 0
+  Named = (sheet ≡ 1) ⊎ (sheet ≡ 2)
+
+  data Why (r : Refusal) : Type 0 where
+    of-sheet : Named → 1 ≤ r .number → r .number ≤ 7 → r .sheet ≡ sheet → Why r
+    of-number : (sheet ≡ 1 → ⊥) → (sheet ≡ 2 → ⊥) → r ≡ plain 8 0 → Why r
+    of-state : Named → r ≡ plain 15 0 → Why r
+
+  abbrev Refused : Refusal → Type 0
+  Refused r = Why r × Carries first second r
+
+  place-why : Named → (read : Reading Fault Sheet) → OnlyRefused (λ (f : Fault). (1 ≤ f .number) × (f .number ≤ 7)) read
+      → OnlyRefused Why (inPlace sheet read)
+  unfolding inPlace
+  place-why named (good s) o = tt
+  place-why named (refusal f) o = of-sheet named (o .0) (o .1) refl
+
+  -- in the sheet that is named
+  sheet-refused : Named → (b : List ℕ) → (q : ℕ)
+      → OnlyRefused (Carries first second) (inPlace sheet (readSheet b)) → OnlyRefused Refused (rowInSheet sheet b q)
+  unfolding rowInSheet
+  sheet-refused named b q carries =
+      only-then Refused (inPlace sheet (readSheet b)) _
+      (only-both Why (Carries first second) (inPlace sheet (readSheet b)) (place-why named (readSheet b) (sheet-numbers b)) carries)
+      (λ s.
+      only-check Refused (ltb q (length (s .contract .states))) _ _ (of-state named refl, plain-carries first second 15 0 (inr (omega arith))) tt)
+
+  row-refused : (q : ℕ) → OnlyRefused Refused (rowIn first second sheet q)
+  unfolding rowIn namedSheet then
+  row-refused q = go (eqb sheet 1) (eqb sheet 2) refl refl
+    where
+      go : (one two : Bool) → eqb sheet 1 ≡ one → eqb sheet 2 ≡ two
+          → OnlyRefused Refused
+          (then (cond one (good first) (cond two (good second) (refusal (plain 8 0)))) (λ (b : List ℕ). rowInSheet sheet b q))
+      go true two e d =
+          let is : sheet ≡ 1 = eqb-true sheet 1 e in
+          sheet-refused (inl is) first q (in-place first second sheet first (λ r at reads. inl (at ∙ is, reads)))
+      go false true e d =
+          let is : sheet ≡ 2 = eqb-true sheet 2 d in
+          sheet-refused (inr is) second q (in-place first second sheet second (λ r at reads. inr (at ∙ is, reads)))
+      go false false e d =
+          (of-number (eqb-false sheet 1 e) (eqb-false sheet 2 d) refl, plain-carries first second 8 0 (inr (omega arith)))
+
+-- ---- the promises
+
+module _ (first second : List ℕ) (sheet q : ℕ) where
+  abbrev answer : Refusal
+  answer = rowRefusalOf first second sheet q
+
+  -- no row: the refusal is the answer, and the part is empty
+  answer-is : (r : Refusal) → rowIn first second sheet q ≡ refusal r → answer ≡ r
+  unfolding rowRefusalOf refusalOr
+  answer-is r e = ap refusalOr e
+
+  empty-is : (r : Refusal) → rowIn first second sheet q ≡ refusal r → rowPartOf first second sheet q ≡ record { sheet = 1; offset = 0; length = 0 }
+  unfolding rowPartOf partOr
+  empty-is r e = ap partOr e
+
+  refuses : (r : Refusal) → rowIn first second sheet q ≡ refusal r → Refused first second sheet r → RefusesRow first second sheet q
+  unfolding plain
+  refuses r e (of-sheet named low high at, carries) =
+      let n : answer .number ≡ r .number = ap (λ (x : Refusal). x .number) (answer-is r e) in
+      record {
+        number = inl (omega arith);
+        unnamed = ((λ w. absurd (omega arith)), (λ none. absurd (⊎-elim (none .0) (none .1) named)));
+        carries = subst⁻¹ (Carries first second) (answer-is r e) carries;
+        named = λ _ _. ap (λ (x : Refusal). x .sheet) (answer-is r e) ∙ at;
+        no-sheet = λ w. absurd (omega arith);
+        empty = λ _. empty-is r e;
+      }
+  refuses r e (of-number one two is, carries) =
+      let n : answer .number ≡ 8 = ap (λ (x : Refusal). x .number) (answer-is r e ∙ is) in
+      record {
+        number = inl (omega arith);
+        unnamed = ((λ _. (one, two)), (λ _. n));
+        carries = subst⁻¹ (Carries first second) (answer-is r e) carries;
+        named = λ _ high. absurd (omega arith);
+        no-sheet = λ _. ap (λ (x : Refusal). x .sheet) (answer-is r e ∙ is);
+        empty = λ _. empty-is r e;
+      }
+  refuses r e (of-state named is, carries) =
+      let n : answer .number ≡ 15 = ap (λ (x : Refusal). x .number) (answer-is r e ∙ is) in
+      record {
+        number = inr n;
+        unnamed = ((λ w. absurd (omega arith)), (λ none. absurd (⊎-elim (none .0) (none .1) named)));
+        carries = subst⁻¹ (Carries first second) (answer-is r e) carries;
+        named = λ _ high. absurd (omega arith);
+        no-sheet = λ _. ap (λ (x : Refusal). x .sheet) (answer-is r e ∙ is);
+        empty = λ _. empty-is r e;
+      }
+
+  -- a row: there is no refusal
+  none-is : (x : Part) → rowIn first second sheet q ≡ good x → answer ≡ plain 0 0
+  unfolding rowRefusalOf refusalOr
+  none-is x e = ap refusalOr e
+
+  answers : (x : Part) → rowIn first second sheet q ≡ good x → RefusesRow first second sheet q
+  unfolding plain
+  answers x e =
+      let h = handed first second sheet q x e in
+      let is = none-is x e in
+      let n : answer .number ≡ 0 = ap (λ (r : Refusal). r .number) is in
+      record {
+        number = inl (omega arith);
+        unnamed = ((λ w. absurd (omega arith)), (λ none. absurd (⊎-elim (λ w. none .0 (w .0)) (λ w. none .1 (w .0)) (h .named))));
+        carries = subst⁻¹ (Carries first second) is (plain-carries first second 0 0 (inl refl));
+        named = λ low _. absurd (omega arith);
+        no-sheet = λ w. absurd (omega arith);
+        empty = λ w. absurd (w n);
+      }
+
+  part-is-row : (x : Part) → rowIn first second sheet q ≡ good x → rowPartOf first second sheet q ≡ x
+  unfolding rowPartOf partOr
+  part-is-row x e = ap partOr e
+
+  -- the sheet that the part is of is the one that is named
+  whole-is : (b : List ℕ) → ((sheet ≡ 1) × (b ≡ first)) ⊎ ((sheet ≡ 2) × (b ≡ second)) → cond (eqb sheet 2) second first ≡ b
+  whole-is b (inl w) = rw (ne-eqb sheet 2 (λ d. omega (arith, w .0))) (sym (w .1))
+  whole-is b (inr w) = rw (eq-eqb sheet 2 (w .0)) (sym (w .1))
+
+  hands-back : (x : Part) → rowIn first second sheet q ≡ good x → HandsBack first second sheet q
+  unfolding wholeOf cut
+  hands-back x e =
+      let h = handed first second sheet q x e in
+      let is : rowPartOf first second sheet q ≡ record { sheet = sheet; offset = rowStart (h .bytes) q; length = rowLength (state (h .read .contract) q) } =
+      part-is-row x e ∙ sym (h .is) in
+      let of : wholeOf (rowPartOf first second sheet q) first second ≡ h .bytes =
+      ap (λ (p : Part). wholeOf p first second) is ∙ whole-is (h .bytes) (h .named) in
+      let begin : rowPartOf first second sheet q .offset ≡ rowStart (h .bytes) q = ap (λ (p : Part). p .offset) is in
+      let long : rowPartOf first second sheet q .length ≡ rowLength (state (h .read .contract) q) = ap (λ (p : Part). p .length) is in
+      record {
+        named = ⊎-elim (λ w. inl (w .0)) (λ w. inr (w .0)) (h .named);
+        of-named = ap (λ (p : Part). p .sheet) is;
+        read = h .read;
+        reads = ap readSheet of ∙ h .reads;
+        there = h .within;
+        begins = begin ∙ ap (λ (b : List ℕ). rowStart b q) (sym of);
+        long = long;
+        inside = subst⁻¹ (λ (b : List ℕ). rowPartOf first second sheet q .offset + rowPartOf first second sheet q .length ≤ length b) of
+            (omega (arith, begin, long, row-inside (h .bytes) (h .read) q (h .reads) (h .within)));
+        own = λ small.
+            (λ i. take (long i) (drop (begin i) (of i)))
+            ∙ row-own (h .bytes) (subst (λ (b : List ℕ). (i : ℕ) → byte b i < 256) of small) (h .read) q (h .reads) (h .within);
+      }
+
+-- a reading by its two cases
+by-reading : {E A : Type 0} (C : Type 0) (r : Reading E A) → ((a : A) → r ≡ good a → C) → ((e : E) → r ≡ refusal e → C) → C
+by-reading C (good a) f g = f a refl
+by-reading C (refusal e) f g = g e refl
+
+pub row-refuses : RowRefuses
+row-refuses first second sheet q =
+    by-reading (RefusesRow first second sheet q) (rowIn first second sheet q) (answers first second sheet q)
+    (λ r e. refuses first second sheet q r e (only-elim (Refused first second sheet) (rowIn first second sheet q) r (row-refused first second sheet q) e))
+
+pub row-hands-back : RowHandsBack
+unfolding plain
+row-hands-back first second sheet q none =
+    by-reading (HandsBack first second sheet q) (rowIn first second sheet q) (hands-back first second sheet q)
+    (λ r e.
+    absurd
+    (some-number r (only-elim (Refused first second sheet) (rowIn first second sheet q) r (row-refused first second sheet q) e .0)
+    (ap (λ (x : Refusal). x .number) (sym (answer-is first second sheet q r e)) ∙ none)))
+  where
+    some-number : (r : Refusal) → Why first second sheet r → r .number ≡ 0 → ⊥
+    some-number r (of-sheet named low high at) z = omega arith
+    some-number r (of-number one two is) z = omega (arith, number-of 8 r is)
+    some-number r (of-state named is) z = omega (arith, number-of 15 r is)
+
+pub other-not-tested : OtherNotTested
+unfolding rowIn namedSheet then
+other-not-tested = record { second = λ first second other q. refl; first = λ first second other q. refl }
