@@ -1,7 +1,8 @@
 """Clients to be checked against services.
 
 A case is: the client sheet's length (16 bits), that sheet, and the service
-sheet to the end.  Its line is: number, sheet, state, and 1 for yes or 0.
+sheet to the end.  Its line is: number, sheet, state, offset, and 1 for yes
+or 0.
 """
 
 from .chance import Chance
@@ -30,8 +31,8 @@ def expected(data):
 
 
 def group(data):
-    number, _, _, complies = verdict(data)
-    return ("yes" if complies else "no") if number == 0 else f"{number:2}"
+    found = verdict(data)
+    return ("yes" if found.complies else "no") if found.number == 0 else f"{found.number:2}"
 
 
 def small_system(chance):

@@ -1,6 +1,6 @@
 """The connecting of two sheets: the whole answer, and what is lent
 afterwards (document 01, "Which pairs connect", "Refusals and their order";
-document 02, request 5/13)."""
+document 02, requests 5/13 and 6/13)."""
 
 from typing import NamedTuple
 
@@ -13,9 +13,13 @@ ZERO_RECORD = Situation(EMPTY, 0, 0)
 
 
 class Answer(NamedTuple):
+    """The offset is that of the byte at fault: "refusals 4 to 7 carry it
+    beside the state, all others 0" (document 02, request 6/13)."""
+
     number: int
     sheet: int = 0
     state: int = 0
+    offset: int = 0
     situations: int = 0
     plan_states: int = 0
     rounds: int = 0
@@ -36,7 +40,7 @@ def read_two(first, second, roles):
     for place, sheet in ((1, first), (2, second)):
         read = read_sheet(sheet)
         if isinstance(read, Refusal):
-            return None, None, Answer(read.number, place, read.state)
+            return None, None, Answer(read.number, place, read.state, read.offset)
         contracts.append(read)
     for place in (1, 2):
         if contracts[place - 1].role != roles[place - 1]:

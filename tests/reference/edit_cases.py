@@ -4,8 +4,8 @@ A case is: number of lent records (16 bits); the mode (one byte); the old sheet
 and the new one, each behind its length (16 bits); the plan to the end.  Before
 each call no record of the work table is zero.
 
-Its line is, of the check: number, sheet, state; how many lent records are zero
-after it, and how many are as they were.  Then, of the fault, asked for with
+Its line is, of the check: number, sheet, state, offset; how many lent records
+are zero after it, and how many are as they were.  Then, of the fault, asked for with
 the same arguments and whatever the check answers: condition, code, ready set,
 plan state; the fourteen counts; old state, new state; how many lent records
 are zero after it, and how many are as they were.
@@ -33,7 +33,7 @@ def called(data):
 def expected(data):
     answer, fault, table = called(data)
     lent = [table.count(ZERO_RECORD), table.count(MARKED)]
-    figures = [answer.number, answer.sheet, answer.state, *lent, *fault.figures(), *lent]
+    figures = [answer.number, answer.sheet, answer.state, answer.offset, *lent, *fault.figures(), *lent]
     return " ".join(map(str, figures)) + "\n"
 
 

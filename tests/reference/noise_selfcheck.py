@@ -10,7 +10,7 @@ from .chance import Chance
 from .sheet_cases import cases
 from .sheet_edges import END_ROW, loose_sheet, placed, row
 from .sheet_random import untidy_sheet
-from .sheets import CLIENT, SERVICE, Refusal, Refused, number_at, read_sheet
+from .sheets import CLIENT, SERVICE, Refusal, Refused, number_at, read_sheet, row_start
 
 
 def is_noise(mask, n, role):
@@ -54,10 +54,6 @@ def read_before(sheet):
     """What reading gave before request 2/13."""
     with mock.patch.object(sheets, "read_masks", read_mask_by_mask):
         return read_sheet(sheet)
-
-
-def row_start(sheet, number):
-    return number_at(sheet, number_at(sheet, len(sheet) - 6) + 2 * number)
 
 
 def is_of_a_mask(sheet, read):

@@ -6,8 +6,8 @@ sheet's length (16 bits), that sheet, and the second to the end.  Before the
 call every byte of the lent plan is EE hex and no record of the work table is
 zero.
 
-Its line is: number, sheet, state; situations, plan states, rounds; the plan's
-length; the digest of the whole lent plan after the call; how many lent
+Its line is: number, sheet, state, offset; situations, plan states, rounds; the
+plan's length; the digest of the whole lent plan after the call; how many lent
 records are zero after it, and how many are as they were.
 """
 

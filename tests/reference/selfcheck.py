@@ -78,7 +78,7 @@ class Cases(unittest.TestCase):
         old, new = (write_sheet(contract) for contract in CASES[0].contracts())
         self.assertEqual((old, new), (M1_OLD, M1_NEW))
         after = connect(PAPER, M1_OLD, M1_NEW, 0, b"\xee" * 40, [MARKED] * 3)
-        self.assertEqual(after.answer, Answer(0, 0, 0, 2, 2, 0, 21))
+        self.assertEqual(after.answer, Answer(0, 0, 0, 0, 2, 2, 0, 21))
         self.assertEqual(after.plan, M1_PLAN + b"\xee" * 19)
         self.assertEqual(after.table, [ZERO_RECORD] * 3)
         self.assertEqual(printed(b"\0" + hexed("1100") + M1_OLD + M1_NEW), M1_PRINT)
@@ -174,8 +174,8 @@ class Connecting(unittest.TestCase):
         for first, second, k, records, expected in [
             (broken, broken, 9, 0, Answer(1, 1)),
             (M1_OLD, broken, 9, 0, Answer(1, 2)),
-            (shown, broken, 9, 0, Answer(4, 1)),
-            (role_1, shown, 9, 0, Answer(4, 2)),
+            (shown, broken, 9, 0, Answer(4, 1, 0, 7)),
+            (role_1, shown, 9, 0, Answer(4, 2, 0, 7)),
             (role_1, role_1_n_3, 9, 0, Answer(8, 1)),
             (M1_OLD, role_1_n_3, 9, 0, Answer(8, 2)),
             (M1_OLD, n_3, 9, 0, Answer(9)),
@@ -193,7 +193,7 @@ class Connecting(unittest.TestCase):
             self.assertEqual(after.table, [MARKED if number == 10 else ZERO_RECORD] * records)
             self.assertEqual(after.plan, M1_PLAN if number == 0 else b"\xee" * room)
         self.assertEqual(
-            connect(PAPER, M1_OLD, M1_NEW, 0, bytes(20), [MARKED] * 2).answer, Answer(13, 0, 0, 2, 2, 0, 0)
+            connect(PAPER, M1_OLD, M1_NEW, 0, bytes(20), [MARKED] * 2).answer, Answer(13, 0, 0, 0, 2, 2, 0, 0)
         )
 
     def test_buffers_are_counted(self):

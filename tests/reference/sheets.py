@@ -104,6 +104,11 @@ def number_at(sheet, offset):
     return int.from_bytes(sheet[offset : offset + 2], "little")
 
 
+def row_start(sheet, number):
+    """Where the index says that a state's row begins."""
+    return number_at(sheet, number_at(sheet, len(sheet) - TRAILER) + 2 * number)
+
+
 def read_trailer(sheet):
     """Refusals 1 to 3."""
     if not TRAILER <= len(sheet) <= LONGEST:
