@@ -1,6 +1,6 @@
 //! The row of a state, of whichever of two sheets is named (document 02, request 6/13).
 
-use crate::sheet::{word, Contract, TRAILER};
+use crate::sheet::{read_states, word, State};
 use crate::Refusal;
 
 /// A part of one of two sheets: which one, where it begins there, and how many bytes it has.
@@ -39,14 +39,13 @@ fn find(first: &[u8], second: &[u8], sheet: u8, state: u8) -> Result<Part, Refus
         2 => second,
         _ => return Err(Refusal::bare(8)),
     };
-    let mut contract = Contract::unread();
-    contract.read(named).map_err(|refusal| refusal.of(sheet))?;
-    if state >= contract.count {
+    let trailer = read_states(named, &mut [State::default()]).map_err(|refusal| refusal.of(sheet))?;
+    if state >= trailer.count {
         return Err(Refusal::bare(15));
     }
     // A row ends where the next one begins, and the last one where the index does: that stands in the trailer, directly
     // behind the last entry.
-    let entry = named.len() - TRAILER - 2 * usize::from(contract.count - state);
+    let entry = trailer.index + 2 * usize::from(state);
     let (offset, end) = (word(named[entry], named[entry + 1]), word(named[entry + 2], named[entry + 3]));
     Ok(Part { sheet, offset, length: end - offset })
 }

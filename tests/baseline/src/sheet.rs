@@ -65,28 +65,23 @@ impl Contract {
 
     /// Reads a sheet, or gives the first of refusals 1 to 7, as that of a sheet without a place.
     pub fn read(&mut self, sheet: &[u8]) -> Result<(), Refusal> {
-        let index = self.read_trailer(sheet).map_err(Refusal::bare)?;
-        let (rows, entries) = sheet.split_at(index);
-        let unwanted = unwanted(self.n, self.role);
-        let blamed = |state| move |(number, at)| Refusal { number, sheet: 0, state, offset: at as u16 };
-        let mut at = 0;
-        for state in 0..self.count {
-            let entry = 2 * state as usize;
-            if word(entries[entry], entries[entry + 1]) as usize != at {
-                return Err(blamed(state)((4, index + entry)));
-            }
-            let row = &mut self.states[state as usize & (MOST_STATES - 1)];
-            at = read_row(row, rows, at, unwanted, self.count).map_err(blamed(state))?;
-        }
-        if at == index {
-            Ok(())
-        } else {
-            Err(blamed(self.count - 1)((4, at)))
-        }
+        let Trailer { count, n, role, .. } = read_states(sheet, &mut self.states)?;
+        (self.count, self.n, self.role) = (count, n, role);
+        Ok(())
     }
+}
 
-    /// The index's offset, or the first of refusals 1 to 3.
-    fn read_trailer(&mut self, sheet: &[u8]) -> Result<usize, u8> {
+/// What the trailer of a sheet says.
+pub struct Trailer {
+    pub index: usize,
+    pub count: u8,
+    pub n: u8,
+    pub role: u8,
+}
+
+impl Trailer {
+    /// Reads the trailer, or gives the first of refusals 1 to 3.
+    fn read(sheet: &[u8]) -> Result<Trailer, u8> {
         if !(TRAILER..=LONGEST_SHEET).contains(&sheet.len()) {
             return Err(1);
         }
@@ -99,8 +94,30 @@ impl Contract {
         if index + 2 * count as usize + TRAILER != sheet.len() {
             return Err(3);
         }
-        (self.count, self.n, self.role) = (count, n, role);
-        Ok(index)
+        Ok(Trailer { index, count, n, role })
+    }
+}
+
+/// Reads the states of a sheet, or gives the first of refusals 1 to 7. A state goes to its number modulo the room: where
+/// there is room for 64 all are kept, where there is room for one the last.
+#[inline]
+pub fn read_states<const ROOM: usize>(sheet: &[u8], states: &mut [State; ROOM]) -> Result<Trailer, Refusal> {
+    let trailer = Trailer::read(sheet).map_err(Refusal::bare)?;
+    let (rows, entries) = sheet.split_at(trailer.index);
+    let unwanted = unwanted(trailer.n, trailer.role);
+    let blamed = |state| move |(number, at)| Refusal { number, sheet: 0, state, offset: at as u16 };
+    let mut at = 0;
+    for state in 0..trailer.count {
+        let entry = 2 * state as usize;
+        if word(entries[entry], entries[entry + 1]) as usize != at {
+            return Err(blamed(state)((4, rows.len() + entry)));
+        }
+        at = read_row(&mut states[state as usize % ROOM], rows, at, unwanted, trailer.count).map_err(blamed(state))?;
+    }
+    if at == rows.len() {
+        Ok(trailer)
+    } else {
+        Err(blamed(trailer.count - 1)((4, at)))
     }
 }
 
@@ -114,7 +131,7 @@ pub fn unwanted(n: u8, role: u8) -> u16 {
 /// Reads the row at an offset and gives its end, or the first of refusals 4 to 7 with the offset of the byte at fault.
 /// The first byte missing is always the one where the rows end. Whether a mask has a bit too many is seen from all masks
 /// together.
-#[inline]
+#[inline(always)]
 fn read_row(row: &mut State, rows: &[u8], at: usize, unwanted: u16, count: u8) -> Result<usize, (u8, usize)> {
     let missing = (4, rows.len());
     let &sets = rows.get(at).ok_or(missing)?;
