@@ -11,6 +11,7 @@ from .compliance import check_client
 from .framing import Framed, measured
 from .pair_cases import small_shape
 from .random_contracts import mirrored, random_contract, resembling
+from .sheet_faults import faulty_pairs
 from .sheet_random import careless_sheet, changed, untidy_sheet
 from .sheets import CLIENT, SERVICE, write_sheet
 
@@ -73,5 +74,5 @@ def cases():
         yield framed(f"client untidy {i}", untidy_sheet(chance), service)
         yield framed(f"service untidy {i}", client, untidy_sheet(chance))
         yield framed(f"two untidy sheets {i}", untidy_sheet(chance), untidy_sheet(chance))
-    for edge in edges():
+    for edge in (*edges(), *faulty_pairs(CLIENT, SERVICE)):
         yield framed(*edge)

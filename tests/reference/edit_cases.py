@@ -13,13 +13,15 @@ are zero after it, and how many are as they were.
 
 from .chance import Chance
 from .connecting import ZERO_RECORD
-from .edit_edges import edges
+from .edit_edges import PLANS, edges
 from .edit_limits import limits
 from .edit_random import random_edits
 from .edit_settled import settled_edges
 from .edit_settled_random import random_settled_edits
-from .edits import MARKED, parts
+from .edits import MARKED, framed, parts
 from .plan_checks import check_plan
+from .sheet_faults import faulty_pairs
+from .sheets import SERVICE
 
 SEED, SETTLED_SEED = 20100908, 20100910
 
@@ -58,10 +60,19 @@ def settled_cases():
     yield from random_settled_edits(Chance(SETTLED_SEED))
 
 
+def faulty_sheets():
+    """Each kind of byte at fault in a sheet, in one mode or the other, before
+    each kind of plan."""
+    plans = list(PLANS.values())
+    for i, (label, old, new) in enumerate(faulty_pairs(SERVICE, SERVICE)):
+        yield framed(label, old, new, plans[i // 2 % len(plans)], 2, i % 2)
+
+
 def cases():
-    """The paper's mode, then the settled one; no case twice."""
+    """The paper's mode, then the settled one, then sheets with bytes at
+    fault; no case twice."""
     seen = set()
-    for case in (*paper_cases(), *settled_cases()):
+    for case in (*paper_cases(), *settled_cases(), *faulty_sheets()):
         if case.data not in seen:
             seen.add(case.data)
             yield case

@@ -20,6 +20,7 @@ from .pair_settled_random import random_settled_pairs
 from .pairs import MARKED, RECORDS, ROOM, framed, small_shape, small_sheets
 from .random_contracts import random_contract
 from .relation import PAPER
+from .sheet_faults import faulty_pairs
 from .sheet_random import careless_sheet, changed, untidy_sheet
 from .sheets import CLIENT, SERVICE, Contract, state, write_sheet
 
@@ -148,14 +149,20 @@ def paper_cases():
     yield from untidy(chance)
 
 
+def faulty():
+    """Each kind of byte at fault, in one mode or the other."""
+    for i, (label, first, second) in enumerate(faulty_pairs(SERVICE, SERVICE)):
+        yield framed(label, first, second, i % 5, 3, 9, i % 2)
+
+
 def cases():
-    """The paper's mode, then the settled one with some pairs in both; of the
-    latter no case twice."""
+    """The paper's mode, then the settled one with some pairs in both, then
+    bytes at fault; of the latter two no case twice."""
     seen = set()
     for case in paper_cases():
         seen.add(case.data)
         yield case
-    for case in (*settled_pairs(), *random_settled_pairs(Chance(SETTLED_SEED))):
+    for case in (*settled_pairs(), *random_settled_pairs(Chance(SETTLED_SEED)), *faulty()):
         if case.data not in seen:
             seen.add(case.data)
             yield case

@@ -6,7 +6,7 @@ from .actions import ACTIONS, SUCCESS
 from .cases import M1_NEW, M1_OLD
 from .framing import Framed, measured
 from .sheet_edges import END_ROW, WIDE, loose_sheet, placed, row
-from .sheet_faults import faults
+from .sheet_faults import farthest, faults
 from .sheets import CLIENT, MOST_READY, MOST_STATES, SERVICE
 
 #: The shortest row and the longest.
@@ -39,7 +39,7 @@ def row_of(ready, actions, successor=0):
 def sheet_numbers():
     """Each number with whole and broken sheets in both places."""
     kinds = {"whole": M1_NEW, "broken": BROKEN, "empty": b""}
-    for sheet, (one, other) in product((0, 1, 2, 3, 127, 128, 254, 255), product(kinds, kinds)):
+    for sheet, (one, other) in product((0, 1, 2, 3, 127, 128, 129, 130, 254, 255), product(kinds, kinds)):
         for state in (1, 2):
             yield framed(f"{one} and {other}", sheet, state, kinds[one], kinds[other])
 
@@ -165,6 +165,13 @@ def named_broken():
                 yield in_place(label, number, state, sheet, other)
 
 
+def broken_at_the_end():
+    """The same at the end of a longest sheet."""
+    for number, role in ((1, CLIENT), (2, SERVICE)):
+        for label, sheet in farthest(role):
+            yield in_place(label, number, 63, sheet)
+
+
 def other_broken():
     """Each fault of the sheet that is not asked about, which is not tested."""
     for number, role in ((1, CLIENT), (2, SERVICE)):
@@ -184,4 +191,5 @@ def edges():
     yield from roles_and_names()
     yield from beginnings()
     yield from named_broken()
+    yield from broken_at_the_end()
     yield from other_broken()

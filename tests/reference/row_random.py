@@ -40,13 +40,13 @@ def asked(chance, label, first, second):
 
 #: How many cases with sheets of each kind, one in either place.
 RANDOM = (
-    ("whole", 160, small_sheet, small_sheet),
-    ("damaged", 80, damaged_sheet, damaged_sheet),
-    ("first damaged", 40, damaged_sheet, small_sheet),
-    ("second damaged", 40, small_sheet, damaged_sheet),
-    ("careless", 60, careless_sheet, careless_sheet),
-    ("untidy", 30, untidy_sheet, untidy_sheet),
-    ("noise before a trailer", 30, noise_before_trailer, noise_before_trailer),
+    ("whole", 120, small_sheet, small_sheet),
+    ("damaged", 60, damaged_sheet, damaged_sheet),
+    ("first damaged", 30, damaged_sheet, small_sheet),
+    ("second damaged", 30, small_sheet, damaged_sheet),
+    ("careless", 50, careless_sheet, careless_sheet),
+    ("untidy", 25, untidy_sheet, untidy_sheet),
+    ("noise before a trailer", 25, noise_before_trailer, noise_before_trailer),
     ("noise", 10, noise, noise),
 )
 

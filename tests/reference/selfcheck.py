@@ -29,12 +29,24 @@ from .plans import Plan, read_plan, step, write_plan
 from .program import printed
 from .random_contracts import Shape, may_end, mirrored, random_contract, resembling
 from .relation import PAPER, kept_after_rounds, passes, reached
+from .row_selfcheck import BytesAtFault, Rows, WrongRules
 from .runs import At, Attempt, run
 from .settled_selfcheck import Settled
 from .sheets import CLIENT, SERVICE, Contract, Refusal, offered, read_sheet, state, write_sheet
 
 #: Checked with the rest.
-OTHERS = ChoosingSheets, HiddenChoices, NoCircle, Reading, MasksWithNoise, PlansByHand, Settled
+OTHERS = (
+    ChoosingSheets,
+    HiddenChoices,
+    NoCircle,
+    Reading,
+    MasksWithNoise,
+    PlansByHand,
+    Settled,
+    BytesAtFault,
+    Rows,
+    WrongRules,
+)
 
 MARKED = Situation((9,) * 14, 9, 9)
 

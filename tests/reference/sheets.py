@@ -1,18 +1,18 @@
 """Contracts, and sheets read and written (document 01, "Contracts as sheets",
-and request 2/13 of document 02).
+and requests 2/13 and 6/13 of document 02).
 
 A sheet that cannot be read gives a Refusal.  Its offset is that of the byte
 at fault in the sheet, and 0 for refusals 1 to 3:
 
 - an index entry that is wrong: the entry's first byte;
-- a byte missing from a row: the index's offset, where that byte would have
-  had to stand at the latest;
+- bytes missing from a row: the index's offset, where the first of them would
+  have to stand;
 - a wrong count of ready sets: the count byte;
 - masks with forbidden bits: the first byte of the first of them;
 - masks out of order: the first byte of the first that is not above the one
   before it;
 - a successor: its byte;
-- a gap: the byte directly behind the last row.
+- bytes left over: the first of them, directly behind the last row.
 """
 
 from typing import NamedTuple
