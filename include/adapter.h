@@ -1,12 +1,12 @@
 /*
  * Connecting two service contracts, stepping a plan, checking a client against a service, converting a choosing sheet, checking a plan from
- * any hand: the proved library for C and C++.
+ * any hand, a row of a sheet: the proved library for C and C++.
  *
  * `rt staticlib adapter` proves the library and writes it to target/staticlib/libadapter.a, for x86-64 Linux. It needs nothing else but
  * memcpy and memset of the C library. examples/c is a program that uses it. The rules, sheets and plans are those of document 01 with
  * request 2/13 of document 02, choosing sheets those of its request 1/13, the check of a plan that of its request 3/13, the settled mode
- * that of its request 5/13; the words in quotation marks below are taken from them. docs/FORMATS.md explains sheets and plans byte by byte,
- * docs/GLOSSARY.md the words.
+ * that of its request 5/13, offsets and rows those of its request 6/13; the words in quotation marks below are taken from them.
+ * docs/FORMATS.md explains sheets and plans byte by byte, docs/GLOSSARY.md the words.
  *
  * What the caller promises. The proof begins here: of a call that breaks one of these, nothing is said.
  *   - Each pointer leads to as many elements as the length behind it says, in one object, all of them initialised; any values will do. A
@@ -35,7 +35,7 @@ extern "C" {
 #endif
 
 /* Rises with every change of this header. */
-#define ADAPTER_HEADER_VERSION 5
+#define ADAPTER_HEADER_VERSION 6
 
 /*
  * The bytes of the longest sheet. A longer one is refused as ADAPTER_LENGTH. With this much lent, no choosing sheet is refused as
@@ -69,14 +69,14 @@ enum adapter_refusal {
     ADAPTER_READY = 5,       /* count not 1 to 8, or masks not strictly ascending */
     ADAPTER_ACTION = 6,      /* a bit for no name, bit 15, or bit 14 in role 0 */
     ADAPTER_SUCCESSOR = 7,   /* successor not below the state count */
-    ADAPTER_ROLE = 8,        /* wrong role for the place */
+    ADAPTER_ROLE = 8,        /* wrong role for the place, or no sheet of that number */
     ADAPTER_NAMES = 9,       /* the two sheets differ in n, or a checked plan differs from them */
     ADAPTER_RANK = 10,       /* k above 3 */
     ADAPTER_CAPACITY = 11,   /* reached situations, in a check of a plan reached pairs, exceed the lent records or 4,096 */
     ADAPTER_NO_ADAPTER = 12, /* the start is removed: no weak k-subcontract relation of the mode holds it */
     ADAPTER_ROOM = 13,       /* the plan is longer than the lent plan, or the sheet than the lent output */
     ADAPTER_PLAN = 14,       /* a stepped or checked plan breaks the plan layout */
-    ADAPTER_STATE = 15,      /* not a state of the plan */
+    ADAPTER_STATE = 15,      /* not a state of the plan, or of the named sheet */
     ADAPTER_MOVE = 16,       /* code not in that row */
     ADAPTER_CHOOSING = 17,   /* a choosing sheet of any other form */
     ADAPTER_CIRCLE = 18,     /* a circle of internal moves, reached or not */
@@ -110,11 +110,21 @@ struct adapter_record {
 /*
  * What connecting answers, and the check of a plan, in 16 bytes. Bytes between the fields mean nothing. In the check's answer the counts
  * and the length are 0, whatever the number.
+ *
+ * The offset, here and in every answer that has one, counts from the sheet's first byte, which has offset 0:
+ *
+ *   ADAPTER_ROW          "the index entry's offset if that entry is wrong, otherwise the first byte missing or left over". An entry's offset
+ *                        is that of its first byte. Rows end where the index begins, so the first byte missing is the index's first. Left
+ *                        over is what stands behind the last row.
+ *   ADAPTER_READY        "the count byte or the mask's first byte": of the first mask that is not above the one before
+ *   ADAPTER_ACTION       "the mask's first byte": of the first mask with a bit that it must not have
+ *   ADAPTER_SUCCESSOR    "the successor": the first that is not below the state count
  */
 struct adapter_answer {
     uint8_t number;      /* an enum adapter_refusal: of connecting up to ADAPTER_ROOM, of the check 0 to 9, 11, 14 or 21 */
     uint8_t sheet;       /* of refusals 1 to 8: 1 for the old sheet, 2 for the new one; else 0 */
     uint8_t state;       /* of refusals 4 to 7: the state of that sheet at fault; else 0 */
+    uint16_t offset;     /* of refusals 4 to 7: the offset in that sheet of the byte at fault; else 0 */
     uint16_t situations; /* the counts of connecting: 0 0 0 for refusals 1 to 11 */
     uint16_t states;     /* of the plan; 0 for refusal 12 */
     uint16_t rounds;     /* that removed a situation */
@@ -127,12 +137,13 @@ struct adapter_step_answer {
     uint16_t state; /* the next state; 0 on a refusal */
 };
 
-/* What the client check answers, in 4 bytes. */
+/* What the client check answers, in 8 bytes. The byte before the offset and the last one mean nothing. */
 struct adapter_complies_answer {
-    uint8_t number; /* an enum adapter_refusal, up to ADAPTER_NAMES */
-    uint8_t sheet;  /* of refusals 1 to 8: 1 for the client's sheet, 2 for the service's; else 0 */
-    uint8_t state;  /* of refusals 4 to 7: the state at fault; else 0 */
-    uint8_t yes;    /* 1 if the client complies, 0 if it does not or on a refusal */
+    uint8_t number;  /* an enum adapter_refusal, up to ADAPTER_NAMES */
+    uint8_t sheet;   /* of refusals 1 to 8: 1 for the client's sheet, 2 for the service's; else 0 */
+    uint8_t state;   /* of refusals 4 to 7: the state at fault; else 0 */
+    uint16_t offset; /* of refusals 4 to 7: the offset in that sheet of the byte at fault; else 0 */
+    uint8_t yes;     /* 1 if the client complies, 0 if it does not or on a refusal */
 };
 
 /* What converting answers, in 6 bytes. The byte between the fields means nothing. */
@@ -155,6 +166,28 @@ struct adapter_fault {
     uint8_t counts[14]; /* the messages that wait there: of name i, counts[i] for the service and counts[7 + i] for the client */
     uint8_t old_state;  /* the state of the old sheet there */
     uint8_t new_state;  /* the state of the new sheet there */
+};
+
+/*
+ * A part of one of two sheets, in 6 bytes. The byte between the first two fields means nothing. Its bytes are the sheet's own: with the
+ * sheets `first` and `second` they begin at (part.sheet == 2 ? second : first) + part.offset, and there are part.length of them. They are
+ * there for as long as the sheet is.
+ */
+struct adapter_part {
+    uint8_t sheet;   /* which sheet it is a part of: 1 for the first, 2 for the second */
+    uint16_t offset; /* where it begins in that sheet */
+    uint16_t length; /* how many bytes it has: 3 to 31 of a row; 0 where there is none */
+};
+
+/*
+ * What adapter_row_refusal answers, in 6 bytes. The byte before the offset means nothing. All fields are 0 where the row is there. Unlike
+ * every other answer, one with ADAPTER_ROLE carries the sheet 0 here: there is no sheet of the number passed.
+ */
+struct adapter_row_answer {
+    uint8_t number;  /* ADAPTER_ACCEPTED, ADAPTER_LENGTH to ADAPTER_ROLE, or ADAPTER_STATE */
+    uint8_t sheet;   /* of refusals 1 to 7: the number of the sheet, as it was passed; else 0 */
+    uint8_t state;   /* of refusals 4 to 7: the state at fault, which need not be the one passed; else 0 */
+    uint16_t offset; /* of refusals 4 to 7: the offset in that sheet of the byte at fault; else 0 */
 };
 
 /*
@@ -259,6 +292,25 @@ struct adapter_answer adapter_check_plan(uint8_t mode, const uint8_t *old_sheet,
 struct adapter_fault adapter_plan_fault(uint8_t mode, const uint8_t *old_sheet, size_t old_len, const uint8_t *new_sheet, size_t new_len,
                                         const uint8_t *plan, size_t plan_len, struct adapter_record *work, size_t work_len);
 
+/*
+ * The row of a state, "from whichever of the two lent sheets is named": sheet 1 is the first, 2 the second. Sheets may be of either role,
+ * and differ in n. The sheet that is not named "is not tested", and may be of length 0.
+ *
+ * A row is the count of its ready sets, two bytes for each of them and a byte for each action that the state offers. It begins where the
+ * state's index entry says. What is given back is where it lies: struct adapter_part says how its bytes are reached. Where there is no such
+ * row it is "an empty part of the first sheet", {1, 0, 0}, and adapter_row_refusal says why.
+ */
+struct adapter_part adapter_row(const uint8_t *first, size_t first_len, const uint8_t *second, size_t second_len, uint8_t sheet,
+                                uint8_t state);
+
+/*
+ * Why adapter_row finds no row for the same arguments; all 0 where it finds one. Neither call has to come before the other. The first
+ * refusal in this order is the answer: "8 with sheet 0 for a sheet other than 1 or 2, 1 to 7 if the named one is broken, 15 for a state not
+ * in it". A sheet with a fault anywhere is broken: its rows before the fault are not given either.
+ */
+struct adapter_row_answer adapter_row_refusal(const uint8_t *first, size_t first_len, const uint8_t *second, size_t second_len,
+                                              uint8_t sheet, uint8_t state);
+
 #if defined(__cplusplus) && __cplusplus >= 201103L
 #define ADAPTER_ASSERT static_assert
 #elif defined(__STDC_VERSION__) && __STDC_VERSION__ >= 201112L
@@ -268,9 +320,11 @@ struct adapter_fault adapter_plan_fault(uint8_t mode, const uint8_t *old_sheet, 
 ADAPTER_ASSERT(sizeof(struct adapter_record) == 208, "a record has 208 bytes");
 ADAPTER_ASSERT(sizeof(struct adapter_answer) == 16, "the answer of connecting has 16 bytes");
 ADAPTER_ASSERT(sizeof(struct adapter_step_answer) == 4, "the answer of stepping has 4 bytes");
-ADAPTER_ASSERT(sizeof(struct adapter_complies_answer) == 4, "the answer of the client check has 4 bytes");
+ADAPTER_ASSERT(sizeof(struct adapter_complies_answer) == 8, "the answer of the client check has 8 bytes");
 ADAPTER_ASSERT(sizeof(struct adapter_sheet_answer) == 6, "the answer of converting has 6 bytes");
 ADAPTER_ASSERT(sizeof(struct adapter_fault) == 22, "a fault has 22 bytes");
+ADAPTER_ASSERT(sizeof(struct adapter_part) == 6, "a part has 6 bytes");
+ADAPTER_ASSERT(sizeof(struct adapter_row_answer) == 6, "the refusal of a row has 6 bytes");
 #undef ADAPTER_ASSERT
 #endif
 

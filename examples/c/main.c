@@ -1,8 +1,9 @@
 /*
  * Connects the pair M1 of document 01, prints the answer and the plan, steps the plan, checks a client of the old service, and converts a
- * choosing sheet. Then it checks the plan, strikes its move out, checks it again and says what is at fault. Last it connects the pair M4 in
+ * choosing sheet. Then it checks the plan, strikes its move out, checks it again and says what is at fault. Then it connects the pair M4 in
  * both modes: the paper's gives a plan, which takes the client's message and never delivers it, the settled one none. So the plan does not
- * pass when it is checked as a settled one.
+ * pass when it is checked as a settled one. Last it prints a row of M1's new sheet, has a damaged copy of that sheet refused and says where
+ * the byte at fault is, and asks for the row of a state that is not there.
  */
 #include <stdio.h>
 #include <string.h>
@@ -220,6 +221,46 @@ static void show_modes(void)
     check("check, settled", ADAPTER_SETTLED, &m4, answer.length, answer.states);
 }
 
+/* Prints the row of a state, of the first sheet of a pair or of the second, or the number of the refusal. */
+static void show_row(const struct pair *pair, uint8_t number, uint8_t state)
+{
+    struct adapter_part part = adapter_row(pair->old_sheet, pair->old_len, pair->new_sheet, pair->new_len, number, state);
+    printf("row of sheet %u, state %u: ", (unsigned)number, (unsigned)state);
+    if (part.length > 0) {
+        print_bytes(part.sheet == 2 ? pair->new_sheet : pair->old_sheet, part.offset, part.length, "\n");
+    } else {
+        struct adapter_row_answer answer =
+            adapter_row_refusal(pair->old_sheet, pair->old_len, pair->new_sheet, pair->new_len, number, state);
+        printf("number %u\n", (unsigned)answer.number);
+    }
+}
+
+/* Connects a pair, and if a sheet is refused for one of its rows says where to look in it. */
+static void show_place(const char *name, const struct pair *pair)
+{
+    struct adapter_answer answer = adapter_connect(0, pair->old_sheet, pair->old_len, pair->new_sheet, pair->new_len, work,
+                                                   sizeof work / sizeof work[0], plan, sizeof plan);
+    printf("%s: number %u", name, (unsigned)answer.number);
+    if (answer.number >= ADAPTER_ROW && answer.number <= ADAPTER_SUCCESSOR) {
+        const uint8_t *faulty = answer.sheet == 2 ? pair->new_sheet : pair->old_sheet;
+        printf(", sheet %u, state %u, offset %u, where the byte is %02X", (unsigned)answer.sheet, (unsigned)answer.state,
+               (unsigned)answer.offset, (unsigned)faulty[answer.offset]);
+    }
+    printf("\n");
+}
+
+/* M1's new sheet, and a copy of it in which b leads to state 2. There are two states only, 0 and 1. */
+static void show_rows(void)
+{
+    uint8_t damaged_sheet[sizeof new_sheet];
+    struct pair damaged = {old_sheet, sizeof old_sheet, damaged_sheet, sizeof damaged_sheet};
+    memcpy(damaged_sheet, new_sheet, sizeof damaged_sheet);
+    damaged_sheet[4] = 0x02;
+    show_row(&m1, 2, 0);
+    show_place("damaged", &damaged);
+    show_row(&m1, 2, 2);
+}
+
 int main(void)
 {
     struct adapter_answer answer =
@@ -249,5 +290,6 @@ int main(void)
     check("check", ADAPTER_PAPER, &m1, length, answer.states);
 
     show_modes();
+    show_rows();
     return 0;
 }

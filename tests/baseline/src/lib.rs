@@ -1,7 +1,7 @@
 //! Document 01's connecting, stepping and client check, and from document 02 the conversion of choosing sheets (request
-//! 1/13), the check of edited plans (3/13) and the settled mode of both (5/13), written from the documents and for speed:
-//! a third implementation, beside the crates and the reference program. It shares nothing with them. The benchmark
-//! compares the crates with it, then measures them against it.
+//! 1/13), the check of edited plans (3/13), the settled mode of both (5/13) and the row of a state (6/13), written from
+//! the documents and for speed: a third implementation, beside the crates and the reference program. It shares nothing
+//! with them. The benchmark compares the crates with it, then measures them against it.
 #![forbid(unsafe_code)]
 
 mod choosing;
@@ -13,6 +13,7 @@ mod numbering;
 mod plan;
 mod reach;
 mod rounds;
+mod row;
 mod sheet;
 mod situation;
 
@@ -21,6 +22,7 @@ pub use client::complies;
 pub use connect::Workspace;
 pub use edits::{Checker, Fault};
 pub use plan::step;
+pub use row::{row, row_refusal, Part};
 
 /// The length of the longest sheet.
 pub const LONGEST_SHEET: usize = 2118;
@@ -49,29 +51,45 @@ impl Mode {
     }
 }
 
-/// What connecting answers: 0 or the refusal's number, the sheet and the state that it carries, the counts, and
-/// the plan's length. The check of a plan answers no counts and no length.
+/// What connecting answers: 0 or the refusal's number, the sheet, the state and the offset that it carries, the counts,
+/// and the plan's length. The check of a plan answers no counts and no length.
 #[derive(Clone, Copy, Debug, Default, PartialEq, Eq)]
 pub struct Answer {
     pub number: u8,
     pub sheet: u8,
     pub state: u8,
+    pub offset: u16,
     pub situations: u16,
     pub states: u16,
     pub rounds: u16,
     pub length: u32,
 }
 
-/// The number of a refusal, and the sheet and the state that it carries.
-#[derive(Clone, Copy, Debug, PartialEq, Eq)]
-pub(crate) struct Refusal {
+/// The number of a refusal, and what it carries: the sheet, and of 4 to 7 the state and the offset of the byte at fault.
+/// All 0 where nothing is refused.
+#[derive(Clone, Copy, Debug, Default, PartialEq, Eq)]
+pub struct Refusal {
     pub number: u8,
     pub sheet: u8,
     pub state: u8,
+    pub offset: u16,
+}
+
+impl Refusal {
+    /// A refusal that carries nothing.
+    pub(crate) fn bare(number: u8) -> Refusal {
+        Refusal { number, ..Refusal::default() }
+    }
+
+    /// The refusal of a sheet, which is the first or the second.
+    pub(crate) fn of(self, sheet: u8) -> Refusal {
+        Refusal { sheet, ..self }
+    }
 }
 
 impl From<Refusal> for Answer {
     fn from(refusal: Refusal) -> Answer {
-        Answer { number: refusal.number, sheet: refusal.sheet, state: refusal.state, ..Answer::default() }
+        let Refusal { number, sheet, state, offset } = refusal;
+        Answer { number, sheet, state, offset, ..Answer::default() }
     }
 }

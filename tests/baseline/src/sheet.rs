@@ -1,4 +1,4 @@
-//! Contracts, read from their sheets (document 01, "Contracts as sheets", and document 02, request 2/13).
+//! Contracts, read from their sheets (document 01, "Contracts as sheets", and document 02, requests 2/13 and 6/13).
 
 use crate::{Refusal, LONGEST_SHEET};
 
@@ -63,30 +63,25 @@ impl Contract {
         Contract { count: 0, n: 0, role: SERVICE, states: [State::default(); MOST_STATES] }
     }
 
-    /// Reads a sheet, or gives the number and the state of the first of refusals 1 to 7.
-    pub fn read(&mut self, sheet: &[u8]) -> Result<(), (u8, u8)> {
-        let rows = self.read_trailer(sheet).map_err(|number| (number, 0))?;
-        let entries = &sheet[rows..];
-        let rows = &sheet[..rows];
-        let unwanted = unwanted(self.n, self.role);
-        let mut at = 0;
-        for state in 0..self.count {
-            let entry = 2 * state as usize;
-            if word(entries[entry], entries[entry + 1]) as usize != at {
-                return Err((4, state));
-            }
-            let row = &mut self.states[state as usize & (MOST_STATES - 1)];
-            at = read_row(row, rows, at, unwanted, self.count).map_err(|number| (number, state))?;
-        }
-        if at == rows.len() {
-            Ok(())
-        } else {
-            Err((4, self.count - 1))
-        }
+    /// Reads a sheet, or gives the first of refusals 1 to 7, as that of a sheet without a place.
+    pub fn read(&mut self, sheet: &[u8]) -> Result<(), Refusal> {
+        let Trailer { count, n, role, .. } = read_states(sheet, &mut self.states)?;
+        (self.count, self.n, self.role) = (count, n, role);
+        Ok(())
     }
+}
 
-    /// The index's offset, or the first of refusals 1 to 3.
-    fn read_trailer(&mut self, sheet: &[u8]) -> Result<usize, u8> {
+/// What the trailer of a sheet says.
+pub struct Trailer {
+    pub index: usize,
+    pub count: u8,
+    pub n: u8,
+    pub role: u8,
+}
+
+impl Trailer {
+    /// Reads the trailer, or gives the first of refusals 1 to 3.
+    fn read(sheet: &[u8]) -> Result<Trailer, u8> {
         if !(TRAILER..=LONGEST_SHEET).contains(&sheet.len()) {
             return Err(1);
         }
@@ -99,8 +94,30 @@ impl Contract {
         if index + 2 * count as usize + TRAILER != sheet.len() {
             return Err(3);
         }
-        (self.count, self.n, self.role) = (count, n, role);
-        Ok(index)
+        Ok(Trailer { index, count, n, role })
+    }
+}
+
+/// Reads the states of a sheet, or gives the first of refusals 1 to 7. A state goes to its number modulo the room: where
+/// there is room for 64 all are kept, where there is room for one the last.
+#[inline]
+pub fn read_states<const ROOM: usize>(sheet: &[u8], states: &mut [State; ROOM]) -> Result<Trailer, Refusal> {
+    let trailer = Trailer::read(sheet).map_err(Refusal::bare)?;
+    let (rows, entries) = sheet.split_at(trailer.index);
+    let unwanted = unwanted(trailer.n, trailer.role);
+    let blamed = |state| move |(number, at)| Refusal { number, sheet: 0, state, offset: at as u16 };
+    let mut at = 0;
+    for state in 0..trailer.count {
+        let entry = 2 * state as usize;
+        if word(entries[entry], entries[entry + 1]) as usize != at {
+            return Err(blamed(state)((4, rows.len() + entry)));
+        }
+        at = read_row(&mut states[state as usize % ROOM], rows, at, unwanted, trailer.count).map_err(blamed(state))?;
+    }
+    if at == rows.len() {
+        Ok(trailer)
+    } else {
+        Err(blamed(trailer.count - 1)((4, at)))
     }
 }
 
@@ -111,62 +128,73 @@ pub fn unwanted(n: u8, role: u8) -> u16 {
     !(names | names << 7 | mark)
 }
 
-/// Reads the row at an offset and gives its end, or the first of refusals 4 to 7. Whether a mask has a bit too many is
-/// seen from all masks together.
-#[inline]
-fn read_row(row: &mut State, rows: &[u8], at: usize, unwanted: u16, count: u8) -> Result<usize, u8> {
-    let &sets = rows.get(at).ok_or(4)?;
+/// Reads the row at an offset and gives its end, or the first of refusals 4 to 7 with the offset of the byte at fault.
+/// The first byte missing is always the one where the rows end. Whether a mask has a bit too many is seen from all masks
+/// together.
+#[inline(always)]
+fn read_row(row: &mut State, rows: &[u8], at: usize, unwanted: u16, count: u8) -> Result<usize, (u8, usize)> {
+    let missing = (4, rows.len());
+    let &sets = rows.get(at).ok_or(missing)?;
     if !(1..=MOST_READY).contains(&sets) {
-        return Err(5);
+        return Err((5, at));
     }
     let behind = at + 1 + 2 * sets as usize;
-    let masks = rows.get(at + 1..behind).ok_or(4)?;
+    let masks = rows.get(at + 1..behind).ok_or(missing)?;
     let (mut least, mut union) = (0, 0);
     row.ready = [NONE; MOST_READY as usize];
-    let mut left = row.ready.iter_mut().zip(masks.chunks_exact(2));
-    while let Some((ready, mask)) = left.next() {
+    for (ready, mask) in row.ready.iter_mut().zip(masks.chunks_exact(2)) {
         let mask = word(mask[0], mask[1]);
         if u32::from(mask) < least {
-            // The bits of this mask and of those behind it come before its order.
-            let all = left.fold(union | mask, |all, (_, mask)| all | word(mask[0], mask[1]));
-            return Err(if all & unwanted != 0 { 6 } else { 5 });
+            return Err(untidy(masks, at + 1, unwanted));
         }
         *ready = mask;
         least = u32::from(mask) + 1;
         union |= mask;
     }
     if union & unwanted != 0 {
-        return Err(6);
+        return Err(untidy(masks, at + 1, unwanted));
     }
     row.sets = sets;
     row.offered = union & ACTIONS;
     let end = behind + row.offered.count_ones() as usize;
-    let successors = rows.get(behind..end).ok_or(4)?;
+    let successors = rows.get(behind..end).ok_or(missing)?;
     let mut highest = 0;
     for (&successor, action) in successors.iter().zip(Bits(row.offered.into())) {
         row.after[action as usize & 15] = successor;
         highest = highest.max(successor);
     }
     if highest < count {
-        Ok(end)
-    } else {
-        Err(7)
+        return Ok(end);
     }
+    let right = successors.iter().take_while(|successor| **successor < count).count();
+    Err((7, behind + right))
+}
+
+/// The refusal of masks at an offset, of which some are out of order or have a bit too many, and the offset of the one at
+/// fault. The bits of all come before the order of any.
+#[cold]
+fn untidy(masks: &[u8], at: usize, unwanted: u16) -> (u8, usize) {
+    let mask = |place: usize| word(masks[2 * place], masks[2 * place + 1]);
+    let tidy = (0..masks.len() / 2).take_while(|place| mask(*place) & unwanted == 0).count();
+    if 2 * tidy < masks.len() {
+        return (6, at + 2 * tidy);
+    }
+    let above = (1..masks.len() / 2).take_while(|place| mask(*place) > mask(place - 1)).count();
+    (5, at + 2 * (1 + above))
 }
 
 /// Reads two sheets that are to have these roles and the same names, or gives the first of refusals 1 to 9.
 pub fn read_both(first: (&mut Contract, &[u8], u8), second: (&mut Contract, &[u8], u8)) -> Result<(), Refusal> {
-    let blamed = |sheet| move |(number, state)| Refusal { number, sheet, state };
-    first.0.read(first.1).map_err(blamed(1))?;
-    second.0.read(second.1).map_err(blamed(2))?;
+    first.0.read(first.1).map_err(|refusal| refusal.of(1))?;
+    second.0.read(second.1).map_err(|refusal| refusal.of(2))?;
     if first.0.role != first.2 {
-        return Err(blamed(1)((8, 0)));
+        return Err(Refusal::bare(8).of(1));
     }
     if second.0.role != second.2 {
-        return Err(blamed(2)((8, 0)));
+        return Err(Refusal::bare(8).of(2));
     }
     if first.0.n != second.0.n {
-        return Err(blamed(0)((9, 0)));
+        return Err(Refusal::bare(9));
     }
     Ok(())
 }

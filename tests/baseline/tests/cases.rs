@@ -3,8 +3,8 @@
 
 mod made;
 
-use baseline::{complies, convert, step, Answer, Fault, Mode, LONGEST_PLAN};
-use made::{checked_in, connect_in, plan, sheet, State, A, B, END};
+use baseline::{complies, convert, step, Answer, Fault, Mode, Refusal, LONGEST_PLAN};
+use made::{checked_in, connect_in, plan, refusal, sheet, State, A, B, END};
 
 const C: u16 = 1 << 2;
 const SEND_A: u16 = A << 7;
@@ -164,7 +164,9 @@ fn masks_with_noise() {
     for (masks, service, client) in cases {
         for (role, number) in [(0, service), (1, client)] {
             let faulty = sheet(1, role, &[END, (masks, &[]), (&[NOISE], &[])]);
-            assert_eq!(complies(&faulty, &[]), (number, 1, 1, false), "{masks:?}, role {role}");
+            let (refusal, yes) = complies(&faulty, &[]);
+            let Refusal { number: got, sheet, state, .. } = refusal;
+            assert_eq!((got, sheet, state, yes), (number, 1, 1, false), "{masks:?}, role {role}");
         }
     }
 }
@@ -174,10 +176,10 @@ fn a_client_succeeds_or_waits_for_ever() {
     let service = sheet(1, 0, &[(&[A], &[1]), END]);
     let happy = sheet(1, 1, &[(&[SEND_A], &[1]), (&[1 << 14], &[])]);
     let stuck = sheet(1, 1, &[(&[SEND_A], &[1]), END]);
-    assert_eq!(complies(&happy, &service), (0, 0, 0, true));
-    assert_eq!(complies(&stuck, &service), (0, 0, 0, false));
-    assert_eq!(complies(&service, &happy), (8, 1, 0, false));
-    assert_eq!(complies(&happy, &[]), (1, 2, 0, false));
+    assert_eq!(complies(&happy, &service), (Refusal::default(), true));
+    assert_eq!(complies(&stuck, &service), (Refusal::default(), false));
+    assert_eq!(complies(&service, &happy), (refusal(8, 1, 0, 0), false));
+    assert_eq!(complies(&happy, &[]), (refusal(1, 2, 0, 0), false));
 }
 
 /// A choosing sheet of these rows.

@@ -1,8 +1,8 @@
 //! Agreement with the reference program on the data that is stored for the test programs sheet_cases, pair_cases,
-//! step_cases, client_cases, choosing_cases and edit_cases. tests/reference/README.md says how the records and the lines
-//! are laid out.
+//! step_cases, client_cases, choosing_cases, edit_cases and row_cases. tests/reference/README.md says how the records and
+//! the lines are laid out.
 
-use baseline::{complies, convert, step, Checker, Mode, Workspace};
+use baseline::{complies, convert, row, row_refusal, step, Checker, Mode, Refusal, Workspace};
 use std::path::Path;
 
 /// The stored input of a test program and what it is to print.
@@ -37,13 +37,17 @@ fn digest(bytes: &[u8]) -> u64 {
     bytes.iter().fold(0, |figure, byte| (figure * 257 + u64::from(*byte) + 1) % 4_294_967_291)
 }
 
-/// Each sheet as the first of two, the other being empty: a whole one leaves refusal 1 to that. The last figure is the
-/// offset of the byte at fault, which the baseline does not say.
+/// A refusal's number, sheet, state and offset.
+fn carried(refusal: &Refusal) -> [u64; 4] {
+    [refusal.number.into(), refusal.sheet.into(), refusal.state.into(), refusal.offset.into()]
+}
+
+/// Each sheet as the first of two, the other being empty: a whole one leaves refusal 1 to that.
 #[test]
 fn sheets() {
-    agree("sheet_cases", 1, |record| match complies(record, &[]) {
-        (1, 2, 0, false) => vec![0, 0],
-        (number, 1, state, false) => vec![number.into(), state.into()],
+    agree("sheet_cases", 0, |record| match carried(&complies(record, &[]).0) {
+        [1, 2, 0, 0] => vec![0, 0, 0],
+        [number, 1, state, offset] => vec![number, state, offset],
         other => panic!("{other:?}"),
     });
 }
@@ -61,6 +65,7 @@ fn pairs() {
             answer.number.into(),
             answer.sheet.into(),
             answer.state.into(),
+            answer.offset.into(),
             answer.situations.into(),
             answer.states.into(),
             answer.rounds.into(),
@@ -82,8 +87,21 @@ fn steps() {
 fn clients() {
     agree("client_cases", 0, |record| {
         let behind = 2 + word(record, 0);
-        let (number, sheet, state, yes) = complies(&record[2..behind], &record[behind..]);
-        vec![number.into(), sheet.into(), state.into(), yes.into()]
+        let (refusal, yes) = complies(&record[2..behind], &record[behind..]);
+        [&carried(&refusal)[..], &[yes.into()]].concat()
+    });
+}
+
+/// The refusal, the part, and every byte of it.
+#[test]
+fn rows() {
+    agree("row_cases", 0, |record| {
+        let (sheet, state, behind) = (record[0], record[1], 4 + word(record, 2));
+        let (first, second) = (&record[4..behind], &record[behind..]);
+        let (refusal, part) = (row_refusal(first, second, sheet, state), row(first, second, sheet, state));
+        let place: [u64; 3] = [part.sheet.into(), part.offset.into(), part.length.into()];
+        let bytes: Vec<u64> = part.of(first, second).iter().map(|byte| u64::from(*byte)).collect();
+        [&carried(&refusal)[..], &place, &bytes].concat()
     });
 }
 
@@ -110,7 +128,7 @@ fn edited_plans() {
         let answer = checker.check(mode, old, new, plan, records);
         let fault = checker.fault(mode, old, new, plan, records);
         let lent = if matches!(answer.number, 1..=9 | 14) { [0, records as u64] } else { [records as u64, 0] };
-        let head: [u64; 3] = [answer.number.into(), answer.sheet.into(), answer.state.into()];
+        let head: [u64; 4] = [answer.number.into(), answer.sheet.into(), answer.state.into(), answer.offset.into()];
         let wrong: [u64; 4] = [fault.condition.into(), fault.code.into(), fault.ready.into(), fault.state.into()];
         let states: [u64; 2] = [fault.old_state.into(), fault.new_state.into()];
         [&head[..], &lent, &wrong, &fault.counts.map(u64::from), &states, &lent].concat()

@@ -1,7 +1,7 @@
 //! The conversion of choosing sheets: compared, then timed.
 
 use crate::corpus::Choosing;
-use crate::{timing, FILLING};
+use crate::{lines, FILLING};
 use std::hint::black_box;
 
 /// Number, sheet, state and length.
@@ -54,27 +54,16 @@ fn figures(input: &Choosing, answer: &Answer) -> String {
 const FIGURES: &str = "number choosing  sheet";
 
 pub fn describe(inputs: &[Choosing], answers: &[Answer]) {
-    println!("{:34} {FIGURES}", "choosing sheet");
-    for (input, answer) in inputs.iter().zip(answers) {
-        println!("{:34} {}", input.name, figures(input, answer));
-    }
+    let lines = inputs.iter().zip(answers).map(|(input, answer)| (&input.name[..], figures(input, answer)));
+    lines::describe("choosing sheet", FIGURES, lines);
 }
 
 pub fn timed(inputs: &[Choosing], answers: &[Answer]) {
-    print!("{:34} {FIGURES}", "choosing sheet");
-    for (who, _) in CONVERTERS {
-        print!(" {:>12}", format!("{who}, us"));
-    }
-    println!("   ratio");
+    lines::heading("choosing sheet", FIGURES);
     for (input, answer) in inputs.iter().zip(answers) {
         let mut sheet = vec![FILLING; input.room];
-        let medians = timing::medians(&mut CONVERTERS.clone(), |(_, converter)| {
+        lines::timed(&input.name, &figures(input, answer), &mut CONVERTERS.clone(), |(_, converter)| {
             black_box(converter(black_box(&input.bytes), &mut sheet));
         });
-        print!("{:34} {}", input.name, figures(input, answer));
-        for median in &medians {
-            print!(" {:12.3}", median / 1000.0);
-        }
-        println!(" {:7.2}", medians[1] / medians[0]);
     }
 }

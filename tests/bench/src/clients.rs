@@ -1,11 +1,12 @@
 //! The check of clients: compared, then timed.
 
 use crate::corpus::Client;
-use crate::timing;
+use crate::lines;
+use baseline::Refusal;
 use std::hint::black_box;
 
-/// Number, sheet, state and yes.
-type Answer = (u8, u8, u8, bool);
+/// The refusal, and yes.
+type Answer = (Refusal, bool);
 
 type Checker = fn(&Client) -> Answer;
 
@@ -15,7 +16,8 @@ fn by_baseline(input: &Client) -> Answer {
 
 fn by_product(input: &Client) -> Answer {
     let answer = ::product::complies(&input.client, &input.service, false);
-    (answer.number, answer.sheet, answer.state, answer.yes == 1)
+    let (number, sheet, state, offset) = (answer.number, answer.sheet, answer.state, answer.offset);
+    (Refusal { number, sheet, state, offset }, answer.yes == 1)
 }
 
 /// The baseline first, then the product.
@@ -40,33 +42,22 @@ pub fn compared(inputs: &[Client]) -> Vec<Answer> {
 
 /// Number, yes, and the bytes of both sheets.
 fn figures(input: &Client, answer: &Answer) -> String {
-    let yes = if answer.3 { "yes" } else { "no" };
-    format!("{:6} {yes:>3} {:6} {:7}", answer.0, input.client.len(), input.service.len())
+    let yes = if answer.1 { "yes" } else { "no" };
+    format!("{:6} {yes:>3} {:6} {:7}", answer.0.number, input.client.len(), input.service.len())
 }
 
 const FIGURES: &str = "number yes client service";
 
 pub fn describe(inputs: &[Client], answers: &[Answer]) {
-    println!("{:34} {FIGURES}", "client");
-    for (input, answer) in inputs.iter().zip(answers) {
-        println!("{:34} {}", input.name, figures(input, answer));
-    }
+    let lines = inputs.iter().zip(answers).map(|(input, answer)| (&input.name[..], figures(input, answer)));
+    lines::describe("client", FIGURES, lines);
 }
 
 pub fn timed(inputs: &[Client], answers: &[Answer]) {
-    print!("{:34} {FIGURES}", "client");
-    for (who, _) in CHECKERS {
-        print!(" {:>12}", format!("{who}, us"));
-    }
-    println!("   ratio");
+    lines::heading("client", FIGURES);
     for (input, answer) in inputs.iter().zip(answers) {
-        let medians = timing::medians(&mut CHECKERS.clone(), |(_, checker)| {
+        lines::timed(&input.name, &figures(input, answer), &mut CHECKERS.clone(), |(_, checker)| {
             black_box(checker(black_box(input)));
         });
-        print!("{:34} {}", input.name, figures(input, answer));
-        for median in &medians {
-            print!(" {:12.3}", median / 1000.0);
-        }
-        println!(" {:7.2}", medians[1] / medians[0]);
     }
 }

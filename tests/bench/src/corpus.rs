@@ -1,4 +1,5 @@
-//! The files of inputs that corpus.py writes, with choosing_corpus.py, clients_corpus.py and plans_corpus.py.
+//! The files of inputs that corpus.py writes, with choosing_corpus.py, clients_corpus.py, plans_corpus.py and
+//! rows_corpus.py.
 
 use crate::connector::Call;
 use baseline::Mode;
@@ -41,6 +42,15 @@ pub struct Client {
     pub service: Vec<u8>,
 }
 
+/// A state whose row is asked for, of the sheet with this number.
+pub struct Row {
+    pub name: String,
+    pub sheet: u8,
+    pub state: u8,
+    pub first: Vec<u8>,
+    pub second: Vec<u8>,
+}
+
 /// The rest of a file.
 struct Rest<'a>(&'a [u8]);
 
@@ -71,6 +81,11 @@ impl Rest<'_> {
 
     fn client(&mut self) -> Client {
         Client { name: self.name(), client: self.measured(2), service: self.measured(2) }
+    }
+
+    fn row(&mut self) -> Row {
+        let (name, sheet, state) = (self.name(), self.number(1) as u8, self.number(1) as u8);
+        Row { name, sheet, state, first: self.measured(2), second: self.measured(2) }
     }
 
     fn check(&mut self) -> Check {
@@ -110,4 +125,8 @@ pub fn choosing(path: &Path) -> Vec<Choosing> {
 
 pub fn clients(path: &Path) -> Vec<Client> {
     records(path, |rest| rest.client())
+}
+
+pub fn rows(path: &Path) -> Vec<Row> {
+    records(path, |rest| rest.row())
 }

@@ -1,13 +1,15 @@
 //! `bench FOLDER` compares the connectors on all inputs of the folder, then times them on the benchmark's; the same for
-//! the settled mode, for the conversion of choosing sheets, for the check of clients and for the check of plans. `bench
-//! FOLDER describe` says what the benchmark's inputs are.
+//! the settled mode, for the conversion of choosing sheets, for the check of clients, for rows of sheets and for the check
+//! of plans. `bench FOLDER describe` says what the benchmark's inputs are.
 
 mod choosing;
 mod clients;
 mod connector;
 mod corpus;
+mod lines;
 mod plans;
 mod product;
+mod rows;
 mod settled;
 mod timing;
 
@@ -81,24 +83,12 @@ fn growth(connectors: &Connectors, timed: &[(&Input, Answer, Vec<f64>)]) {
 
 fn timed(connectors: &mut Connectors, inputs: &[Input], answers: &[Answer]) {
     let mut plan = vec![FILLING; LONGEST_PLAN];
-    print!("{:34} {FIGURES}", "input");
-    for (who, _) in connectors.iter() {
-        print!(" {:>12}", format!("{who}, us"));
-    }
-    println!("   ratio");
+    lines::heading("input", FIGURES);
     let mut rows = Vec::new();
     for (input, answer) in inputs.iter().zip(answers) {
-        let medians = timing::medians(connectors, |(_, connector)| {
+        let medians = lines::timed(&input.name, &figures(answer), connectors, |(_, connector)| {
             black_box(connector.connect(black_box(&input.call(Mode::Paper)), &mut plan[..input.room]));
         });
-        print!("{:34} {}", input.name, figures(answer));
-        for median in &medians {
-            print!(" {:12.3}", median / 1000.0);
-        }
-        for median in &medians[1..] {
-            print!(" {:7.2}", median / medians[0]);
-        }
-        println!();
         rows.push((input, *answer, medians));
     }
     growth(connectors, &rows);
@@ -116,15 +106,16 @@ fn main() {
     let converted = choosing::compared(&choosing);
     let [clients, random_clients] = ["clients", "random-clients"].map(|name| corpus::clients(&folder.join(name)));
     let complying = clients::compared(&clients);
+    let [rows, random_rows] = ["rows", "random-rows"].map(|name| corpus::rows(&folder.join(name)));
+    let found = rows::compared(&rows);
     let checked = plans::emitted(&corpus::read(&folder.join("plans")));
     if arguments.get(1).is_some_and(|word| word == "describe") {
-        println!("{:34} {FIGURES}", "input");
-        for (input, answer) in inputs.iter().zip(&answers) {
-            println!("{:34} {}", input.name, figures(answer));
-        }
+        let lines = inputs.iter().zip(&answers).map(|(input, answer)| (&input.name[..], figures(answer)));
+        lines::describe("input", FIGURES, lines);
         settled::describe(&alike, &settled);
         choosing::describe(&choosing, &converted);
         clients::describe(&clients, &complying);
+        rows::describe(&rows, &found);
         plans::describe(&checked);
         return;
     }
@@ -138,6 +129,8 @@ fn main() {
     println!("compared: {} choosing sheets, {} random ones", choosing.len(), random_choosing.len());
     clients::compared(&random_clients);
     println!("compared: {} clients, {} random ones", clients.len(), random_clients.len());
+    rows::compared(&random_rows);
+    println!("compared: {} rows, {} random ones", rows.len(), random_rows.len());
     let random_plans = corpus::checks(&folder.join("random-plans"));
     plans::compared(&random_plans);
     println!("compared: {} plans, {} random ones", checked.len(), random_plans.len());
@@ -145,5 +138,6 @@ fn main() {
     settled::timed(&mut connectors, &alike, &settled);
     choosing::timed(&choosing, &converted);
     clients::timed(&clients, &complying);
+    rows::timed(&rows, &found);
     plans::timed(&checked);
 }

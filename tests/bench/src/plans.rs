@@ -1,9 +1,10 @@
 //! The check of plans: compared, then timed beside connecting the same pair.
 
 use crate::corpus::{Check, Input};
-use crate::{timing, FILLING};
+use crate::product::answered;
+use crate::{lines, timing, FILLING};
 use ::product::{Lent, Table};
-use baseline::{Checker, Fault, Mode, Workspace, LONGEST_PLAN, MOST_SITUATIONS};
+use baseline::{Answer, Checker, Fault, Mode, Workspace, LONGEST_PLAN, MOST_SITUATIONS};
 use std::hint::black_box;
 
 /// The emitted plan of a pair, with as many records lent as the pair has situations, for connecting and for the check.
@@ -53,14 +54,13 @@ pub fn emitted(inputs: &[Input]) -> Vec<Emitted> {
     emitted
 }
 
-/// Number, sheet, state, counts and length of the check; and what is at fault.
-type Outcome = ([u32; 7], Fault);
+/// What the check answers, and what is at fault.
+type Outcome = (Answer, Fault);
 
 fn by_baseline(checker: &mut Checker, mode: u8, check: &Check) -> Outcome {
     let (mode, Check { old, new, plan, records }) = (Mode::named(mode), check);
     let answer = checker.check(mode, old, new, plan, *records);
-    let figures = [answer.number, answer.sheet, answer.state].map(u32::from);
-    ([figures[0], figures[1], figures[2], 0, 0, 0, 0], checker.fault(mode, old, new, plan, *records))
+    (answer, checker.fault(mode, old, new, plan, *records))
 }
 
 /// The product's outcome, and whether the lent records are as they are due after each of the two calls.
@@ -73,8 +73,6 @@ fn by_product(table: &mut Table, mode: u8, check: &Check, small: bool) -> (Outco
     table.fill(&lent);
     let fault = table.plan_fault(&lent, mode, old, new, plan);
     let both_due = due && table.is_as_due(&lent, answer.number);
-    let [number, sheet, state] = [answer.number, answer.sheet, answer.state].map(u32::from);
-    let counts = [answer.situations, answer.states, answer.rounds].map(u32::from);
     let fault = Fault {
         condition: fault.condition,
         code: fault.code,
@@ -84,11 +82,11 @@ fn by_product(table: &mut Table, mode: u8, check: &Check, small: bool) -> (Outco
         old_state: fault.old_state,
         new_state: fault.new_state,
     };
-    (([number, sheet, state, counts[0], counts[1], counts[2], answer.length], fault), both_due)
+    ((answered(&answer), fault), both_due)
 }
 
 /// The baseline's numbers in the paper's mode; stops the program where the product differs, in either mode.
-pub fn compared(checks: &[Check]) -> Vec<u32> {
+pub fn compared(checks: &[Check]) -> Vec<u8> {
     let most = checks.iter().map(|check| check.records).max().unwrap_or(0);
     let (mut checker, mut table) = (Checker::new(), Table::new(most.max(MOST_SITUATIONS)));
     let mut numbers = Vec::new();
@@ -102,7 +100,7 @@ pub fn compared(checks: &[Check]) -> Vec<u32> {
                 );
                 std::process::exit(1);
             }
-            expected.0[0]
+            expected.0.number
         });
         numbers.push(number);
     }
@@ -110,10 +108,7 @@ pub fn compared(checks: &[Check]) -> Vec<u32> {
 }
 
 pub fn describe(emitted: &[Emitted]) {
-    println!("{:34} {FIGURES}", "plan");
-    for one in emitted {
-        println!("{:34} {}", one.name, one.figures());
-    }
+    lines::describe("plan", FIGURES, emitted.iter().map(|one| (&one.name[..], one.figures())));
 }
 
 type Contender<'a> = Box<dyn FnMut() + 'a>;

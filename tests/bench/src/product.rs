@@ -18,22 +18,27 @@ impl Product {
     }
 }
 
+/// The product's answer as the baseline would give it.
+pub fn answered(answer: &product::Answer) -> Answer {
+    Answer {
+        number: answer.number,
+        sheet: answer.sheet,
+        state: answer.state,
+        offset: answer.offset,
+        situations: answer.situations,
+        states: answer.states,
+        rounds: answer.rounds,
+        length: answer.length,
+    }
+}
+
 impl Connector for Product {
     fn connect(&mut self, call: &Call, plan: &mut [u8]) -> Answer {
         let (lent, Call { mode, k, old, new, .. }) = (Lent::records(call.records), *call);
-        let answer = match mode {
+        answered(&match mode {
             Mode::Paper => self.table.connect(&lent, k, old, new, plan),
             Mode::Settled => self.table.connect_mode(&lent, 1, k, old, new, plan),
-        };
-        Answer {
-            number: answer.number,
-            sheet: answer.sheet,
-            state: answer.state,
-            situations: answer.situations,
-            states: answer.states,
-            rounds: answer.rounds,
-            length: answer.length,
-        }
+        })
     }
 
     fn tried(&mut self, call: &Call, plan: &mut [u8]) -> (Answer, bool) {

@@ -1,7 +1,7 @@
 //! Connecting in the settled mode: compared, then timed beside the paper's mode on the same input.
 
 use crate::corpus::Input;
-use crate::{figures, timing, Connectors, FIGURES, FILLING};
+use crate::{figures, lines, timing, Connectors, FIGURES, FILLING};
 use baseline::{Answer, Mode, LONGEST_PLAN};
 use std::hint::black_box;
 
@@ -16,10 +16,8 @@ pub fn compared(connectors: &mut Connectors, inputs: &[Input]) -> Vec<Answer> {
 }
 
 pub fn describe(inputs: &[Input], answers: &[Answer]) {
-    println!("{:34} {FIGURES}", "settled");
-    for (input, answer) in inputs.iter().zip(answers) {
-        println!("{:34} {}", input.name, figures(answer));
-    }
+    let lines = inputs.iter().zip(answers).map(|(input, answer)| (&input.name[..], figures(answer)));
+    lines::describe("settled", FIGURES, lines);
 }
 
 /// Who connects, by place, and in which mode.

@@ -10,6 +10,7 @@ pub enum Call {
     Complies(Complies),
     FromChoosing(FromChoosing),
     CheckPlan(CheckPlan),
+    Row(Row),
 }
 
 /// Without a mode it is adapter_connect that is called, with one adapter_connect_mode. With `null`, slices without elements
@@ -58,6 +59,16 @@ pub struct CheckPlan {
     pub records: usize,
     pub null: bool,
     pub small: bool,
+}
+
+/// The row of a state of the sheet with this number, and why there is none: both are called, one after the other.
+#[derive(Clone, Debug, Default, PartialEq, Eq)]
+pub struct Row {
+    pub first: Vec<u8>,
+    pub second: Vec<u8>,
+    pub sheet: u8,
+    pub state: u8,
+    pub null: bool,
 }
 
 /// A byte that names the settled mode: for one in two the 1 of the header.
@@ -157,6 +168,22 @@ impl Call {
             Call::Complies(_) => "complies",
             Call::FromChoosing(_) => "from_choosing",
             Call::CheckPlan(_) => "check_plan",
+            Call::Row(_) => "row",
+        }
+    }
+
+    /// The sheet of this number, if the call has one.
+    pub fn sheet(&self, number: u32) -> Option<&[u8]> {
+        let (first, second) = match self {
+            Call::Connect(Connect { old, new, .. }) | Call::CheckPlan(CheckPlan { old, new, .. }) => (old, new),
+            Call::Complies(Complies { client, service, .. }) => (client, service),
+            Call::Row(Row { first, second, .. }) => (first, second),
+            Call::Step(_) | Call::FromChoosing(_) => return None,
+        };
+        match number {
+            1 => Some(first),
+            2 => Some(second),
+            _ => None,
         }
     }
 
@@ -187,6 +214,10 @@ impl Call {
                 ("old", Field::Bytes(old)), ("new", Field::Bytes(new)), ("plan", Field::Bytes(plan)),
                 ("records", Field::Size(records)), ("null", Field::Flag(null)), ("small", Field::Flag(small)),
             ],
+            Call::Row(Row { first, second, sheet, state, null }) => vec![
+                ("first", Field::Bytes(first)), ("second", Field::Bytes(second)),
+                ("sheet", Field::Byte(sheet)), ("state", Field::Byte(state)), ("null", Field::Flag(null)),
+            ],
         }
     }
 
@@ -209,6 +240,7 @@ impl Call {
             "complies" => Call::Complies(Complies::default()),
             "from_choosing" => Call::FromChoosing(FromChoosing::default()),
             "check_plan" => Call::CheckPlan(CheckPlan::default()),
+            "row" => Call::Row(Row::default()),
             _ => return None,
         };
         for line in lines {
@@ -233,9 +265,10 @@ mod tests {
         let complies = Complies { client: vec![9], ..Complies::default() };
         let converted = FromChoosing { choosing: vec![1, 0xC6], room: 2118, null: true };
         let checked = CheckPlan { mode: 128, ..CheckPlan::new(&mut chance, vec![2], vec![], vec![3, 0xEE], 4097) };
+        let shown = Row { first: vec![4], second: vec![0xC5, 5], sheet: 2, state: 63, null: true };
         let connecting = [connect, settled].map(Call::Connect);
         let others = [Call::Step(step), Call::Complies(complies), Call::FromChoosing(converted)];
-        for call in connecting.into_iter().chain(others).chain([Call::CheckPlan(checked)]) {
+        for call in connecting.into_iter().chain(others).chain([Call::CheckPlan(checked), Call::Row(shown)]) {
             assert_eq!(Call::read(&format!("# why\n{}", call.text())), Some(call));
         }
         assert_eq!(Call::read("connect\nmode 1\n"), None);

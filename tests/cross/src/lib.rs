@@ -1,6 +1,7 @@
 //! Calls the product's functions and the baseline's on the same inputs, and compares everything that the
 //! calls answer and leave behind.
 
+pub mod at_fault;
 pub mod call;
 pub mod chance;
 pub mod choosing;

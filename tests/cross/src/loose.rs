@@ -151,12 +151,23 @@ fn rows_of(body: &[u8], offset: usize, count: usize, width: usize) -> Option<Vec
     starts.windows(2).map(|ends| rows.get(ends[0]..ends[1]).map(<[u8]>::to_vec)).collect()
 }
 
+/// Where the index of a sheet begins, if that is before the trailer, which says so.
+pub fn index_of(sheet: &[u8]) -> Option<usize> {
+    let trailer = sheet.len().checked_sub(6)?;
+    Some(number(&sheet[trailer..trailer + 2])).filter(|index| *index <= trailer)
+}
+
+/// Where the index of a sheet begins, and where the row of a state does, as trailer and index say.
+pub fn places_at(sheet: &[u8], state: usize) -> Option<(usize, usize)> {
+    let index = index_of(sheet)?;
+    let entry = index + 2 * state;
+    Some((index, number(sheet.get(entry..entry + 2)?)))
+}
+
 /// The ready sets of a state of a sheet, if they are where index and trailer say.
 pub fn masks_at(sheet: &[u8], state: usize) -> Option<Vec<u16>> {
-    let trailer = sheet.len().checked_sub(6)?;
-    let index = number(&sheet[trailer..trailer + 2]);
-    let entry = index + 2 * state;
-    masks_of(sheet.get(number(sheet.get(entry..entry + 2)?)..index)?)
+    let (index, row) = places_at(sheet, state)?;
+    masks_of(sheet.get(row..index)?)
 }
 
 /// The ready sets of a sheet's row, if they are there.

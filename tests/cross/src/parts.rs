@@ -10,6 +10,7 @@ mod many;
 mod modes;
 mod noise;
 mod pairs;
+mod rows;
 mod single;
 mod steps;
 mod untidy;
@@ -33,7 +34,7 @@ impl Share {
 type Part = fn(&mut Runner, &mut Chance, Share) -> Checked;
 
 /// The parts, by name.
-pub const PARTS: [(&str, Part); 21] = [
+pub const PARTS: [(&str, Part); 26] = [
     ("nothing lent, nothing given", empty::run),
     ("lengths at and beyond the limits", lengths::run),
     ("random bytes of all lengths", noise::run),
@@ -55,6 +56,11 @@ pub const PARTS: [(&str, Part); 21] = [
     ("checks with many pairs", by_hand::many),
     ("checks at and beyond the limits", by_hand::lengths),
     ("the same in each mode", modes::run),
+    ("rows of sheets", rows::whole),
+    ("rows of damaged sheets", rows::damaged),
+    ("every byte of sheets with rows changed", rows::single),
+    ("every sheet number and every state", rows::numbers),
+    ("rows at and beyond the limits", rows::lengths),
 ];
 
 /// An emitted plan that is not trivial, of at most so many bytes.

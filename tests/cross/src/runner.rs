@@ -4,7 +4,7 @@ use crate::call::{Call, Connect};
 use crate::failures;
 use crate::smaller::smallest;
 use crate::tally::Tally;
-use crate::target::{Figures, Outcome, Target};
+use crate::target::{Figures, Outcome, Target, LENGTH, SITUATIONS};
 use baseline::Mode;
 use std::fs::File;
 use std::io;
@@ -75,7 +75,7 @@ impl<'a> Runner<'a> {
     pub fn plan(&mut self, call: &Call) -> Checked<Option<Vec<u8>>> {
         let figures = self.check(call)?;
         let lent = self.expected.answer(call).lent.filter(|_| figures[0] == 0);
-        Ok(lent.map(|plan| plan.inside()[..figures[6] as usize].to_vec()))
+        Ok(lent.map(|plan| plan.inside()[..figures[LENGTH] as usize].to_vec()))
     }
 
     /// Checks every stored call of the folder.
@@ -109,7 +109,7 @@ impl<'a> Runner<'a> {
 /// A settled call of connecting that counted situations, in the paper's mode: in no other can the modes differ.
 fn in_paper_mode(call: &Call, figures: &Figures) -> Option<Call> {
     match call {
-        Call::Connect(call) if call.mode() == Mode::Settled && figures[3] > 0 => {
+        Call::Connect(call) if call.mode() == Mode::Settled && figures[SITUATIONS] > 0 => {
             Some(Call::Connect(Connect { mode: Some(0), ..call.clone() }))
         }
         _ => None,

@@ -2,7 +2,8 @@
 //! are cut and lowered, numbers lowered, one after the other, for as long as something can be.
 
 use crate::call::{Call, Field};
-use crate::loose::Loose;
+use crate::loose::{index_of, Loose};
+use std::ops::Range;
 use std::time::{Duration, Instant};
 
 /// No longer than this is spent.
@@ -27,7 +28,8 @@ impl Search<'_> {
         let mut smaller = false;
         for field in 0..self.best.fields().len() {
             smaller |= self.leave_out(field);
-            smaller |= self.cut(field);
+            smaller |= self.cut(field, |bytes| bytes.len(), |bytes, piece| drop(bytes.drain(piece)));
+            smaller |= self.cut(field, |sheet| index_of(sheet).unwrap_or(0), cut_rows);
             smaller |= self.lower_bytes(field);
             smaller |= self.lower(field);
         }
@@ -88,16 +90,16 @@ impl Search<'_> {
         found.then_some(())
     }
 
-    /// Cuts pieces out of bytes, large ones first.
-    fn cut(&mut self, field: usize) -> bool {
+    /// Cuts pieces out of so many of the first bytes, large ones first.
+    fn cut(&mut self, field: usize, front: fn(&[u8]) -> usize, cut: fn(&mut Vec<u8>, Range<usize>)) -> bool {
         let before = self.length(field);
-        let mut size = before;
+        let mut size = self.bytes(field).map_or(0, |bytes| front(bytes));
         while size > 0 {
             let mut at = 0;
-            while at + size <= self.length(field) {
+            while at + size <= self.bytes(field).map_or(0, |bytes| front(bytes)) {
                 let piece = at..at + size;
-                let cut = self.accepts(field, |field| drop(field.bytes().map(|bytes| bytes.drain(piece))));
-                at += if cut { 0 } else { size };
+                let gone = self.accepts(field, |field| field.bytes().map_or((), |bytes| cut(bytes, piece)));
+                at += if gone { 0 } else { size };
             }
             size /= 2;
         }
@@ -123,6 +125,14 @@ impl Search<'_> {
     }
 }
 
+/// Cuts a piece out of the rows of a sheet, whose index then begins that much earlier, as the trailer says.
+fn cut_rows(sheet: &mut Vec<u8>, piece: Range<usize>) {
+    let index = index_of(sheet).unwrap_or(0) - piece.len();
+    sheet.drain(piece);
+    let trailer = sheet.len() - 6;
+    sheet[trailer..trailer + 2].copy_from_slice(&(index as u16).to_le_bytes());
+}
+
 /// Numbers to try instead of a number, all below it.
 fn lower_than(number: usize) -> Vec<usize> {
     let mut lower = vec![0, 1, number / 2, number.saturating_sub(1)];
@@ -134,7 +144,7 @@ fn lower_than(number: usize) -> Vec<usize> {
 #[cfg(test)]
 mod tests {
     use super::*;
-    use crate::call::Step;
+    use crate::call::{Complies, Step};
 
     #[test]
     fn what_matters_is_left() {
@@ -144,5 +154,17 @@ mod tests {
             _ => false,
         });
         assert_eq!(small, Call::Step(Step { plan: vec![50], state: 13, code: 0, null: false }));
+    }
+
+    #[test]
+    fn rows_go_though_an_index_entry_is_wrong() {
+        let client = [&[7; 300][..], &[9, 9, 44, 1, 1, 7, 0, 0xC5]].concat();
+        let call = Call::Complies(Complies { client, ..Complies::default() });
+        let small = smallest(&call, &mut |call| match call {
+            Call::Complies(Complies { client, .. }) => baseline::complies(client, &[]).0.number == 4,
+            _ => false,
+        });
+        let client = vec![0, 0, 0, 0, 1, 0, 0, 0xC5];
+        assert_eq!(small, Call::Complies(Complies { client, ..Complies::default() }));
     }
 }

@@ -1,7 +1,8 @@
 //! How often each outcome was met.
 
-use crate::call::{Call, CheckPlan, Connect};
-use crate::target::{Figures, FAULT};
+use crate::at_fault::{at_fault, BYTES};
+use crate::call::{Call, CheckPlan, Connect, Row};
+use crate::target::{Figures, FAULT, ROUNDS, SITUATIONS, YES};
 use crate::untidy::out_of_order_first;
 use baseline::MOST_SITUATIONS;
 
@@ -12,7 +13,7 @@ const CONNECTING: &[usize] = &[0, 1, 2, 3, 4, 5, 6, 7, 8, 9, 10, 11, 12, 13];
 const CHECKING: &[usize] = &[0, 1, 2, 3, 4, 5, 6, 7, 8, 9, 11, 14, 21];
 
 /// The functions, those with a mode by its byte, and the numbers that each can answer.
-const FUNCTIONS: [(&str, &[usize]); 8] = [
+const FUNCTIONS: [(&str, &[usize]); 9] = [
     ("connect", CONNECTING),
     ("connect, 0", CONNECTING),
     ("connect, 1..", CONNECTING),
@@ -21,6 +22,7 @@ const FUNCTIONS: [(&str, &[usize]); 8] = [
     ("from_choosing", &[0, 13, 17, 18, 19, 20]),
     ("check, 0", CHECKING),
     ("check, 1..", CHECKING),
+    ("row", &[0, 1, 2, 3, 4, 5, 6, 7, 8, 15]),
 ];
 
 /// The place of the client check among them.
@@ -32,6 +34,8 @@ const RARE: u64 = 20;
 #[derive(Default)]
 pub struct Tally {
     numbers: [[u64; LAST + 1]; FUNCTIONS.len()],
+    /// Refusals 4 to 7 by the byte at fault.
+    at_fault: [[u64; BYTES.len()]; FUNCTIONS.len()],
     /// Calls that count situations: fewer than 10, than 100, than 1,000, and more.
     situations: [u64; 4],
     after_removal: u64,
@@ -48,6 +52,9 @@ pub struct Tally {
     /// Plans refused for names other than both sheets'; for more pairs than there may be, whatever is lent.
     other_names: u64,
     beyond: u64,
+    /// Rows of the first sheet, and of the second; those found though the other sheet is broken.
+    rows: [u64; 2],
+    beside_broken: u64,
 }
 
 impl Tally {
@@ -62,19 +69,24 @@ impl Tally {
             Call::FromChoosing(_) => 5,
             Call::CheckPlan(CheckPlan { mode: 0, .. }) => 6,
             Call::CheckPlan(_) => 7,
+            Call::Row(_) => 8,
         };
         self.numbers[function][number] += 1;
+        if let Some(byte) = at_fault(call, figures) {
+            self.at_fault[function][byte as usize] += 1;
+        }
         self.out_of_order += u64::from(out_of_order_first(call, figures));
         match call {
-            Call::Connect(_) if figures[3] > 0 => {
-                self.situations[figures[3].ilog10() as usize] += 1;
-                self.after_removal += u64::from(number == 0 && figures[5] > 0);
+            Call::Connect(_) if figures[SITUATIONS] > 0 => {
+                self.situations[figures[SITUATIONS].ilog10() as usize] += 1;
+                self.after_removal += u64::from(number == 0 && figures[ROUNDS] > 0);
             }
-            Call::Complies(_) => self.yes += u64::from(figures[3] == 1),
+            Call::Complies(_) => self.yes += u64::from(figures[YES] == 1),
             Call::FromChoosing(_) if number == 0 => {
                 self.converted[(figures[3].ilog10() as usize).saturating_sub(1).min(2)] += 1;
             }
             Call::CheckPlan(check) => self.count_check(check, figures),
+            Call::Row(row) if number == 0 => self.count_row(row),
             _ => {}
         }
     }
@@ -98,6 +110,12 @@ impl Tally {
         self.beyond += u64::from(figures[0] == 11 && check.records > MOST_SITUATIONS);
     }
 
+    fn count_row(&mut self, Row { first, second, sheet, .. }: &Row) {
+        self.rows[usize::from(*sheet == 2)] += 1;
+        let other = baseline::row_refusal(first, second, 3 - sheet, 0);
+        self.beside_broken += u64::from(other.number > 0);
+    }
+
     pub fn calls(&self) -> u64 {
         self.numbers.iter().flatten().sum()
     }
@@ -108,6 +126,10 @@ impl Tally {
         for ((name, numbers), counts) in FUNCTIONS.iter().zip(&self.numbers) {
             let unmet = numbers.iter().filter(|number| counts[**number] == 0);
             missing.extend(unmet.map(|number| format!("{name} never answered {number}")));
+        }
+        for ((name, numbers), counts) in FUNCTIONS.iter().zip(&self.at_fault) {
+            let unmet = BYTES.iter().zip(counts).filter(|(_, count)| numbers.contains(&4) && **count == 0);
+            missing.extend(unmet.map(|((_, words), _)| format!("{name} never refused {words}")));
         }
         if self.situations.contains(&0) {
             missing.push("no few, tens, hundreds or thousands of situations".into());
@@ -133,6 +155,9 @@ impl Tally {
         }
         if self.other_names == 0 || self.beyond == 0 {
             missing.push("no plan was refused for its own names, or for pairs beyond the limit".into());
+        }
+        if self.rows.contains(&0) || self.beside_broken == 0 {
+            missing.push("no row of each sheet was found, or none beside a broken sheet".into());
         }
         missing
     }
@@ -161,12 +186,23 @@ impl Tally {
             "accepted after removals: {}; client complies: {}, does not: {no}\n",
             self.after_removal, self.yes
         );
+        let at_fault = BYTES.iter().enumerate().map(|(byte, (_, words))| {
+            let count: u64 = self.at_fault.iter().map(|counts| counts[byte]).sum();
+            format!("{words}: {count}")
+        });
+        lines += &format!("at fault: {}\n", at_fault.collect::<Vec<_>>().join(", "));
         lines += &format!("refused for a bit too many, a mask out of order first: {}\n", self.out_of_order);
         let [tens, hundreds, thousands] = self.converted;
         lines += &format!("converted to bytes below 100: {tens}, below 1,000: {hundreds}, more: {thousands}\n");
         let [buffer, meeting, test, second] = self.conditions;
         lines += &format!("unsound by a count: {buffer}, by a move that is not met: {meeting}, by the test: {test}, ");
         lines += &format!("by its second part: {second}; ");
-        lines + &format!("plans of other names: {}, pairs beyond the limit: {}\n", self.other_names, self.beyond)
+        lines += &format!("plans of other names: {}, pairs beyond the limit: {}\n", self.other_names, self.beyond);
+        let [first, second] = self.rows;
+        lines
+            + &format!(
+                "rows of the first sheet: {first}, of the second: {second}, beside a broken one: {}\n",
+                self.beside_broken
+            )
     }
 }

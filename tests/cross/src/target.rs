@@ -1,6 +1,6 @@
 //! What is compared: anything that answers calls.
 
-use crate::call::{Call, CheckPlan, Complies, Connect, FromChoosing, Step};
+use crate::call::{Call, CheckPlan, Complies, Connect, FromChoosing, Row, Step};
 use crate::guarded::Guarded;
 use baseline::{Checker, Mode, Workspace};
 use product::{Lent, Table};
@@ -8,14 +8,25 @@ use product::{Lent, Table};
 /// More records than document 01's limit of situations.
 pub const MOST_RECORDS: usize = 4200;
 
-/// For connecting: number, sheet, state, situations, plan states, rounds, length. For stepping: number, state.
-/// For the client check: number, sheet, state, and 1 for yes. For converting: number, sheet, state, length. For the
-/// check of a plan: as for connecting; then, from FAULT on, condition, code, ready set, plan state, fourteen counts, old
-/// state, new state. The rest is 0.
-pub type Figures = [u32; 27];
+/// For connecting: number, sheet, state, offset, situations, plan states, rounds, length. For stepping: number, state.
+/// For the client check: number, sheet, state, offset, and 1 for yes. For converting: number, sheet, state, length. For
+/// the check of a plan: as for connecting; then, from FAULT on, condition, code, ready set, plan state, fourteen counts,
+/// old state, new state. For a row: number, sheet, state, offset; then, from PART on, the part's sheet, offset and length.
+/// The rest is 0.
+pub type Figures = [u32; 28];
 
-/// Where the figures of a fault begin.
-pub const FAULT: usize = 7;
+/// The places of some figures: of the offset in a refusal of a sheet; of the counts and the length of connecting; of the
+/// client check's yes.
+pub const OFFSET: usize = 3;
+pub const SITUATIONS: usize = 4;
+pub const STATES: usize = 5;
+pub const ROUNDS: usize = 6;
+pub const LENGTH: usize = 7;
+pub const YES: usize = 4;
+
+/// Where the figures of a fault begin, and those of a part.
+pub const FAULT: usize = 8;
+pub const PART: usize = 4;
 
 /// All that a call answers and leaves behind.
 #[derive(Debug, PartialEq, Eq)]
@@ -47,6 +58,7 @@ macro_rules! connect_figures {
             answer.number.into(),
             answer.sheet.into(),
             answer.state.into(),
+            answer.offset.into(),
             answer.situations.into(),
             answer.states.into(),
             answer.rounds.into(),
@@ -68,8 +80,18 @@ macro_rules! check_figures {
     }};
 }
 
-fn complies_figures(number: u8, sheet: u8, state: u8, yes: u8) -> Figures {
-    padded([number.into(), sheet.into(), state.into(), yes.into()])
+/// The figures of a refusal of either side, or of an answer with the same fields; then further ones.
+macro_rules! refusal_figures {
+    ($refusal:expr $(, $more:expr)*) => {{
+        let refusal = $refusal;
+        padded([
+            refusal.number.into(),
+            refusal.sheet.into(),
+            refusal.state.into(),
+            refusal.offset.into(),
+            $($more.into()),*
+        ])
+    }};
 }
 
 fn sheet_figures(number: u8, sheet: u8, state: u8, length: u16) -> Figures {
@@ -113,8 +135,8 @@ impl Target for Baseline {
                 (step_figures(number, next), None)
             }
             Call::Complies(Complies { client, service, .. }) => {
-                let (number, sheet, state, yes) = baseline::complies(client, service);
-                (complies_figures(number, sheet, state, yes.into()), None)
+                let (refusal, yes) = baseline::complies(client, service);
+                (refusal_figures!(refusal, yes), None)
             }
             Call::FromChoosing(FromChoosing { choosing, room, .. }) => {
                 self.lent.fill(*room);
@@ -126,6 +148,11 @@ impl Target for Baseline {
                 let answer = self.checker.check(mode, old, new, plan, *records);
                 let fault = self.checker.fault(mode, old, new, plan, *records);
                 (check_figures!(answer, fault), None)
+            }
+            Call::Row(Row { first, second, sheet, state, .. }) => {
+                let refusal = baseline::row_refusal(first, second, *sheet, *state);
+                let part = baseline::row(first, second, *sheet, *state);
+                (refusal_figures!(refusal, part.sheet, part.offset, part.length), None)
             }
         };
         Outcome { figures, lent, as_due: true }
@@ -179,6 +206,18 @@ impl Product {
         as_due &= self.first.holds(&call.old) && self.second.holds(&call.new) && self.third.holds(&call.plan);
         (check_figures!(answer, fault), as_due)
     }
+
+    fn row(&mut self, call: &Row) -> (Figures, bool) {
+        let Row { first, second, sheet, state, null } = call;
+        self.first.place(first);
+        self.second.place(second);
+        let (one, other) = (self.first.inside(), self.second.inside());
+        let part = product::row(one, other, *sheet, *state, *null);
+        let mut as_due = self.first.holds(first) && self.second.holds(second);
+        let refusal = product::row_refusal(one, other, *sheet, *state, *null);
+        as_due &= self.first.holds(first) && self.second.holds(second);
+        (refusal_figures!(refusal, part.sheet, part.offset, part.length), as_due)
+    }
 }
 
 impl Default for Product {
@@ -204,7 +243,7 @@ impl Target for Product {
                 self.first.place(client);
                 self.second.place(service);
                 let answer = product::complies(self.first.inside(), self.second.inside(), *null);
-                let figures = complies_figures(answer.number, answer.sheet, answer.state, answer.yes);
+                let figures = refusal_figures!(answer, answer.yes);
                 Outcome { figures, lent: None, as_due: self.first.holds(client) && self.second.holds(service) }
             }
             Call::FromChoosing(FromChoosing { choosing, room, null }) => {
@@ -216,6 +255,10 @@ impl Target for Product {
             }
             Call::CheckPlan(check) => {
                 let (figures, as_due) = self.check_plan(check);
+                Outcome { figures, lent: None, as_due }
+            }
+            Call::Row(row) => {
+                let (figures, as_due) = self.row(row);
                 Outcome { figures, lent: None, as_due }
             }
         }

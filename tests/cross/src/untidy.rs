@@ -1,7 +1,7 @@
 //! Rows left untidy: masks out of order, masks with forbidden bits, or both; and which of the two came first in a row
 //! that was refused for its bits.
 
-use crate::call::{Call, Complies, Connect};
+use crate::call::Call;
 use crate::chance::Chance;
 use crate::contract::{forbidden, ones, Contract, MOST_READY};
 use crate::loose::masks_at;
@@ -43,12 +43,8 @@ fn masks(chance: &mut Chance, forbidden: u16) -> Vec<u16> {
 /// Whether a row was refused for a bit too many though the first of its masks at fault is out of order: such an answer
 /// was 5 before request 2/13 of document 02.
 pub fn out_of_order_first(call: &Call, figures: &Figures) -> bool {
-    let sheet = match (call, figures) {
-        (Call::Connect(Connect { old, .. }), [6, 1, ..]) => old,
-        (Call::Connect(Connect { new, .. }), [6, 2, ..]) => new,
-        (Call::Complies(Complies { client, .. }), [6, 1, ..]) => client,
-        (Call::Complies(Complies { service, .. }), [6, 2, ..]) => service,
-        _ => return false,
+    let Some(sheet) = call.sheet(figures[1]).filter(|_| figures[0] == 6) else {
+        return false;
     };
     let (n, role) = (sheet[sheet.len() - 3], sheet[sheet.len() - 2]);
     let masks = masks_at(sheet, figures[2] as usize).unwrap_or_default();
@@ -60,13 +56,14 @@ pub fn out_of_order_first(call: &Call, figures: &Figures) -> bool {
 #[cfg(test)]
 mod tests {
     use super::*;
+    use crate::call::Complies;
     use crate::contract::{Shape, CLIENT, SERVICE};
     use crate::target::padded;
 
     fn checked(client: Vec<u8>) -> (Call, Figures) {
-        let (number, sheet, state, _) = baseline::complies(&client, &[]);
+        let (refusal, _) = baseline::complies(&client, &[]);
         let call = Call::Complies(Complies { client, ..Complies::default() });
-        (call, padded([number.into(), sheet.into(), state.into()]))
+        (call, padded([refusal.number.into(), refusal.sheet.into(), refusal.state.into()]))
     }
 
     #[test]

@@ -2,12 +2,14 @@
 //! agree is tried at a small share.
 
 use baseline::{Checker, Mode, Workspace};
-use cross::call::{Call, CheckPlan, Complies, Connect, FromChoosing, Step};
+use cross::at_fault::{at_fault, Byte};
+use cross::call::{Call, CheckPlan, Complies, Connect, FromChoosing, Row, Step};
 use cross::chance::Chance;
 use cross::guarded::Guarded;
 use cross::parts::{Share, PARTS};
 use cross::runner::{Checked, Ended, Runner};
-use cross::target::{Baseline, Figures, Outcome, Product, Target, FAULT};
+use cross::target::{Baseline, Figures, Outcome, Product, Target};
+use cross::target::{FAULT, LENGTH, OFFSET, PART, SITUATIONS, STATES, YES};
 use cross::untidy::out_of_order_first;
 use std::path::PathBuf;
 
@@ -103,7 +105,7 @@ fn a_row_tested_mask_by_mask() {
 #[test]
 fn a_wrong_byte_of_a_plan() {
     let call = caught("byte", |_, figures, plan, _| {
-        if figures[4] == 2 && figures[6] > 0 {
+        if figures[STATES] == 2 && figures[LENGTH] > 0 {
             plan.inside_mut()[0] ^= 1;
         }
     });
@@ -146,7 +148,7 @@ fn a_wrong_step() {
 fn a_wrong_yes() {
     let call = caught("yes", |call, figures, _, _| {
         if matches!(call, Call::Complies(_)) && figures[0] == 0 {
-            figures[3] = 1;
+            figures[YES] = 1;
         }
     });
     let Call::Complies(Complies { client, service, null: false }) = call else {
@@ -327,8 +329,8 @@ fn answered_in(mode: Mode, call: &Connect, figures: &mut Figures) {
     let answer = Workspace::new(*records).connect(mode, *k, old, new, *records, &mut vec![0; *room]);
     let counts = [answer.situations, answer.states, answer.rounds].map(u32::from);
     figures[0] = answer.number.into();
-    figures[3..6].copy_from_slice(&counts);
-    figures[6] = answer.length;
+    figures[SITUATIONS..LENGTH].copy_from_slice(&counts);
+    figures[LENGTH] = answer.length;
 }
 
 /// M4, or M4 with a new service that takes something else: two situations.
@@ -410,6 +412,162 @@ fn a_wrong_ready_set_of_a_settled_fault() {
     };
     // A state that offers something.
     assert_eq!(new.len(), 4 + 2 + 6);
+}
+
+#[test]
+fn a_row_at_fault_instead_of_its_mask() {
+    let call = caught("offset", |call, figures, _, _| {
+        if matches!(call, Call::Connect(_)) && at_fault(call, figures) == Some(Byte::MaskOutOfOrder) {
+            figures[OFFSET] -= 1;
+        }
+    });
+    let Call::Connect(Connect { old, new, records: 0, room: 0, null: false, .. }) = call else {
+        panic!("not small: {call:?}");
+    };
+    // One row of two masks, and if it is the second sheet's, a whole one before it.
+    let row = 1 + 2 * 2 + 2 + 6;
+    assert!(matches!((old.len(), new.len()), (first, 0) | (11, first) if first == row), "{old:?}, {new:?}");
+}
+
+#[test]
+fn an_offset_that_the_client_check_does_not_pass_on() {
+    let call = caught("client-offset", |call, figures, _, _| {
+        if matches!(call, Call::Complies(_)) {
+            figures[OFFSET] = 0;
+        }
+    });
+    let Call::Complies(Complies { client, service, null: false }) = call else {
+        panic!("not small: {call:?}");
+    };
+    // One row or less, and if it is the service's, behind a whole sheet of the client.
+    assert!(client.len() <= 12 && service.len() <= 12, "{client:?}, {service:?}");
+}
+
+#[test]
+fn an_offset_that_the_check_of_a_plan_does_not_pass_on() {
+    let call = caught("check-offset", |call, figures, _, _| {
+        if matches!(call, Call::CheckPlan(_)) && figures[1] == 2 {
+            figures[OFFSET] = 0;
+        }
+    });
+    let CheckPlan { old, new, plan, records: 0, .. } = checked(call) else {
+        panic!("not small");
+    };
+    assert!(old.len() == 11 && new.len() <= 12 && plan.is_empty(), "{old:?}, {new:?}, {plan:?}");
+}
+
+#[test]
+fn an_offset_beside_a_wrong_role() {
+    let call = caught("role-offset", |call, figures, _, _| {
+        if matches!(call, Call::Connect(_)) && figures[0] == 8 {
+            figures[OFFSET] = 1;
+        }
+    });
+    let Call::Connect(Connect { old, new, .. }) = call else {
+        panic!("not small: {call:?}");
+    };
+    assert_eq!((old.len(), new.len()), (11, 11));
+}
+
+/// The row that is asked for where a fault was found: the sheet that is named, the other one, and the numbers.
+fn asked(call: Call) -> (Vec<u8>, Vec<u8>, u8, u8) {
+    match call {
+        Call::Row(Row { first, second, sheet: 2, state, null: false }) => (second, first, 2, state),
+        Call::Row(Row { first, second, sheet, state, null: false }) => (first, second, sheet, state),
+        other => panic!("not small: {other:?}"),
+    }
+}
+
+/// A sheet of one state that offers nothing.
+const END: [u8; 11] = [1, 0, 0, 0, 0, 3, 0, 1, 0, 0, 0xC5];
+
+#[test]
+fn a_part_one_byte_short() {
+    let call = caught("short", |call, figures, _, _| {
+        if matches!(call, Call::Row(_)) && figures[0] == 0 {
+            figures[PART + 2] -= 1;
+        }
+    });
+    let (named, other, 1 | 2, 0) = asked(call) else {
+        panic!("not small");
+    };
+    assert_eq!((named, other), (END.to_vec(), vec![]));
+}
+
+#[test]
+fn a_part_of_the_other_sheet() {
+    let call = caught("other", |call, figures, _, _| {
+        if matches!(call, Call::Row(_)) && figures[0] == 0 {
+            figures[PART] = 1;
+        }
+    });
+    assert_eq!(asked(call), (END.to_vec(), vec![], 2, 0));
+}
+
+#[test]
+fn a_part_that_begins_at_the_wrong_row() {
+    let call = caught("begin", |call, figures, _, _| {
+        if matches!(call, Call::Row(_)) && figures[0] == 0 {
+            figures[PART + 1] = 0;
+        }
+    });
+    // Two states, the second of which is asked for.
+    let (named, other, 1 | 2, 1) = asked(call) else {
+        panic!("not small");
+    };
+    assert_eq!((named.len(), other.len()), (3 + 3 + 4 + 6, 0));
+}
+
+#[test]
+fn a_part_that_comes_with_a_refusal() {
+    let call = caught("refused", |call, figures, _, _| {
+        if matches!(call, Call::Row(_)) && figures[0] == 15 {
+            figures[PART] = 2;
+        }
+    });
+    let (named, other, 1 | 2, 1) = asked(call) else {
+        panic!("not small");
+    };
+    assert_eq!((named, other), (END.to_vec(), vec![]));
+}
+
+#[test]
+fn a_sheet_that_is_not_named_and_tested_all_the_same() {
+    let call = caught("tested", |call, figures, _, _| match call {
+        Call::Row(Row { first, second, sheet: 2, .. }) if figures[0] == 0 => {
+            let refusal = baseline::row_refusal(first, second, 1, 0);
+            if refusal.number > 0 {
+                *figures = Figures::default();
+                (figures[0], figures[1], figures[PART]) = (refusal.number.into(), 1, 1);
+            }
+        }
+        _ => {}
+    });
+    assert_eq!(asked(call), (END.to_vec(), vec![], 2, 0));
+}
+
+#[test]
+fn a_sheet_number_in_the_answer_where_there_is_no_such_sheet() {
+    let call = caught("number", |call, figures, _, _| match call {
+        Call::Row(Row { sheet, .. }) if figures[0] == 8 => figures[1] = (*sheet).into(),
+        _ => {}
+    });
+    assert_eq!(asked(call), (vec![], vec![], 3, 0));
+}
+
+#[test]
+fn a_state_looked_for_before_the_sheet_is_tested() {
+    let call = caught("state-first", |call, figures, _, _| match call {
+        Call::Row(Row { state: 64.., .. }) if matches!(figures[0], 1..8) => {
+            *figures = Figures::default();
+            (figures[0], figures[PART]) = (15, 1);
+        }
+        _ => {}
+    });
+    let (named, other, 1 | 2, 64) = asked(call) else {
+        panic!("not small");
+    };
+    assert_eq!((named, other), (vec![], vec![]));
 }
 
 #[test]

@@ -48,6 +48,7 @@ int main(void)
     FIELD(adapter_answer, number);
     FIELD(adapter_answer, sheet);
     FIELD(adapter_answer, state);
+    FIELD(adapter_answer, offset);
     FIELD(adapter_answer, situations);
     FIELD(adapter_answer, states);
     FIELD(adapter_answer, rounds);
@@ -61,6 +62,7 @@ int main(void)
     FIELD(adapter_complies_answer, number);
     FIELD(adapter_complies_answer, sheet);
     FIELD(adapter_complies_answer, state);
+    FIELD(adapter_complies_answer, offset);
     FIELD(adapter_complies_answer, yes);
 
     STRUCT(adapter_sheet_answer);
@@ -77,5 +79,16 @@ int main(void)
     FIELD(adapter_fault, counts);
     FIELD(adapter_fault, old_state);
     FIELD(adapter_fault, new_state);
+
+    STRUCT(adapter_part);
+    FIELD(adapter_part, sheet);
+    FIELD(adapter_part, offset);
+    FIELD(adapter_part, length);
+
+    STRUCT(adapter_row_answer);
+    FIELD(adapter_row_answer, number);
+    FIELD(adapter_row_answer, sheet);
+    FIELD(adapter_row_answer, state);
+    FIELD(adapter_row_answer, offset);
     return 0;
 }

@@ -2,7 +2,7 @@
 //! is lent and answered, and the documents' numbers. It needs a C compiler, as linking this test does.
 
 use baseline::{LONGEST_PLAN, LONGEST_SHEET, MOST_SITUATIONS};
-use product::{Answer, Compliance, Fault, Record, SheetAnswer, Stepped};
+use product::{Answer, Compliance, Fault, Part, Record, RowAnswer, SheetAnswer, Stepped};
 use std::mem::{align_of, offset_of, size_of};
 use std::path::{Path, PathBuf};
 use std::process::Command;
@@ -10,7 +10,7 @@ use std::process::Command;
 const HERE: &str = env!("CARGO_MANIFEST_DIR");
 
 /// The header's, which rises with every change of it.
-const VERSION: u32 = 5;
+const VERSION: u32 = 6;
 
 /// The words for the numbers, document 01's for 0 to 16.
 #[rustfmt::skip]
@@ -46,12 +46,15 @@ fn declared() -> String {
     }
     lines += &laid_out!("adapter_record", Record);
     lines += &laid_out!("adapter_answer", Answer,
-        number: u8, sheet: u8, state: u8, situations: u16, states: u16, rounds: u16, length: u32);
+        number: u8, sheet: u8, state: u8, offset: u16, situations: u16, states: u16, rounds: u16, length: u32);
     lines += &laid_out!("adapter_step_answer", Stepped, number: u8, state: u16);
-    lines += &laid_out!("adapter_complies_answer", Compliance, number: u8, sheet: u8, state: u8, yes: u8);
+    lines += &laid_out!("adapter_complies_answer", Compliance,
+        number: u8, sheet: u8, state: u8, offset: u16, yes: u8);
     lines += &laid_out!("adapter_sheet_answer", SheetAnswer, number: u8, sheet: u8, state: u8, length: u16);
     lines += &laid_out!("adapter_fault", Fault,
         condition: u8, code: u8, ready: u16, state: u16, counts: [u8; 14], old_state: u8, new_state: u8);
+    lines += &laid_out!("adapter_part", Part, sheet: u8, offset: u16, length: u16);
+    lines += &laid_out!("adapter_row_answer", RowAnswer, number: u8, sheet: u8, state: u8, offset: u16);
     lines
 }
 

@@ -10,6 +10,7 @@ pub struct Answer {
     pub number: u8,
     pub sheet: u8,
     pub state: u8,
+    pub offset: u16,
     pub situations: u16,
     pub states: u16,
     pub rounds: u16,
@@ -31,6 +32,7 @@ pub struct Compliance {
     pub number: u8,
     pub sheet: u8,
     pub state: u8,
+    pub offset: u16,
     pub yes: u8,
 }
 
@@ -55,6 +57,25 @@ pub struct Fault {
     pub counts: [u8; 14],
     pub old_state: u8,
     pub new_state: u8,
+}
+
+/// A part of one of two sheets: the number of that sheet, where the part begins there, and how many bytes it has.
+#[repr(C)]
+#[derive(Clone, Copy, Debug, PartialEq, Eq)]
+pub struct Part {
+    pub sheet: u8,
+    pub offset: u16,
+    pub length: u16,
+}
+
+/// Why there is no such row, all 0 if there is one.
+#[repr(C)]
+#[derive(Clone, Copy, Debug, PartialEq, Eq)]
+pub struct RowAnswer {
+    pub number: u8,
+    pub sheet: u8,
+    pub state: u8,
+    pub offset: u16,
 }
 
 #[rustfmt::skip]
@@ -102,6 +123,18 @@ extern "C" {
         plan: *const u8, plan_length: usize,
         work: *mut Record, work_length: usize,
     ) -> Fault;
+
+    pub fn adapter_row(
+        first: *const u8, first_length: usize,
+        second: *const u8, second_length: usize,
+        sheet: u8, state: u8,
+    ) -> Part;
+
+    pub fn adapter_row_refusal(
+        first: *const u8, first_length: usize,
+        second: *const u8, second_length: usize,
+        sheet: u8, state: u8,
+    ) -> RowAnswer;
 }
 
 /// A slice as a pointer and a length. With `as_null`, the pointer of a slice without elements is null.

@@ -1,6 +1,7 @@
-//! Sheets and plans as the tests write them, and calls with memory of their own.
+//! Sheets and plans as the tests write them, and calls with memory of their own. Not every file of tests needs all of it.
+#![allow(dead_code)]
 
-use baseline::{Answer, Checker, Fault, Mode, Workspace};
+use baseline::{Answer, Checker, Fault, Mode, Refusal, Workspace};
 
 pub const A: u16 = 1 << 0;
 pub const B: u16 = 1 << 1;
@@ -24,6 +25,10 @@ pub fn sheet(n: u8, role: u8, states: &[State]) -> Vec<u8> {
     rows.extend(offset);
     rows.extend([states.len() as u8, n, role, 0xC5]);
     rows
+}
+
+pub fn refusal(number: u8, sheet: u8, state: u8, offset: u16) -> Refusal {
+    Refusal { number, sheet, state, offset }
 }
 
 /// Connects with so many records.
@@ -52,7 +57,8 @@ pub fn checked_in(mode: Mode, old: &[u8], new: &[u8], plan: &[u8], records: usiz
     let mut checker = Checker::new();
     let answer = checker.check(mode, old, new, plan, records);
     let fault = checker.fault(mode, old, new, plan, records);
-    assert_eq!(answer, Answer { number: answer.number, sheet: answer.sheet, state: answer.state, ..Answer::default() });
-    assert_eq!(answer.number == 21, fault != Fault::default());
-    (answer.number, fault)
+    let Answer { number, sheet, state, offset, .. } = answer;
+    assert_eq!(answer, Refusal { number, sheet, state, offset }.into());
+    assert_eq!(number == 21, fault != Fault::default());
+    (number, fault)
 }

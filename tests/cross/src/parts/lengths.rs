@@ -6,7 +6,7 @@ use crate::chance::Chance;
 use crate::contract::{trailer, Contract, Shape, MOST_READY, MOST_STATES, SERVICE};
 use crate::runner::{Checked, Runner};
 
-const SHEETS: [usize; 22] = [
+pub const SHEETS: [usize; 22] = [
     0, 1, 5, 6, 7, 8, 11, 255, 256, 2116, 2117, 2118, 2119, 2120, 4096, 32767, 32768, 65535, 65536, 65542, 65544,
     131080,
 ];
@@ -54,7 +54,7 @@ fn everywhere(runner: &mut Runner, chance: &mut Chance, bytes: Vec<u8>) -> Check
 }
 
 /// Bytes with a trailer that claims an index which fits this length, modulo 65,536.
-fn claimed_sheet(chance: &mut Chance, length: usize) -> Vec<u8> {
+pub fn claimed_sheet(chance: &mut Chance, length: usize) -> Vec<u8> {
     let filling = chance.pick(&[0, 1, 0xFF]);
     let mut bytes = if chance.one_in(2) { vec![filling; length] } else { chance.bytes(length) };
     if length >= 6 {
@@ -67,7 +67,7 @@ fn claimed_sheet(chance: &mut Chance, length: usize) -> Vec<u8> {
 }
 
 /// A sheet of so many states, as full as 2,118 bytes allow.
-fn sheet_of(chance: &mut Chance, count: usize, n: u8) -> Vec<u8> {
+pub fn sheet_of(chance: &mut Chance, count: usize, n: u8) -> Vec<u8> {
     let shape = Shape { n, states: MOST_STATES, ready: MOST_READY, actions: 14 };
     let mut contract = Contract { n, role: SERVICE, states: Vec::new() };
     while contract.states.len() < count {

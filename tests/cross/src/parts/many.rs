@@ -5,7 +5,7 @@ use crate::call::{Call, Connect};
 use crate::chance::Chance;
 use crate::contract::{everything, ring, Shape};
 use crate::runner::{Checked, Runner};
-use crate::target::MOST_RECORDS;
+use crate::target::{LENGTH, MOST_RECORDS, SITUATIONS};
 use baseline::LONGEST_PLAN;
 
 /// Names and ranks with which every buffer is reached: (k+1) to the power 2n situations.
@@ -55,7 +55,7 @@ pub fn run(runner: &mut Runner, chance: &mut Chance, share: Share) -> Checked {
 /// The call, then with exactly enough lent, and with one less.
 fn edges(runner: &mut Runner, call: Connect) -> Checked {
     let figures = runner.check(&Call::Connect(call.clone()))?;
-    let (situations, length) = (figures[3] as usize, figures[6] as usize);
+    let (situations, length) = (figures[SITUATIONS] as usize, figures[LENGTH] as usize);
     if situations > 0 {
         runner.check(&Call::Connect(Connect { records: situations, ..call.clone() }))?;
         runner.check(&Call::Connect(Connect { records: situations - 1, ..call.clone() }))?;

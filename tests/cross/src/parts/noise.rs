@@ -41,7 +41,7 @@ fn small_bytes(chance: &mut Chance, length: usize) -> Vec<u8> {
     (0..length).map(|_| if chance.one_in(6) { chance.byte() } else { chance.pick(&[0, 0, 0, 1, 1, 2, 3]) }).collect()
 }
 
-fn sheet_noise(chance: &mut Chance, length: usize) -> Vec<u8> {
+pub fn sheet_noise(chance: &mut Chance, length: usize) -> Vec<u8> {
     if length < 8 || chance.one_in(3) {
         return chance.bytes(length);
     }

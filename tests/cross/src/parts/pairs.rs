@@ -6,6 +6,7 @@ use crate::call::{Call, Connect};
 use crate::chance::Chance;
 use crate::contract::{client_of, Contract, Shape, SERVICE};
 use crate::runner::{Checked, Runner};
+use crate::target::{LENGTH, SITUATIONS};
 
 const RECORDS: [usize; 10] = [0, 1, 2, 5, 16, 16, 64, 64, 64, 200];
 const RANKS: [u8; 12] = [0, 0, 0, 1, 1, 1, 2, 2, 3, 3, 4, 255];
@@ -19,7 +20,7 @@ pub fn run(runner: &mut Runner, chance: &mut Chance, share: Share) -> Checked {
         let room = if medium { 16_384 } else { 600 };
         let mut call = Connect::new(chance, k, old.sheet(), new.sheet(), records, room);
         let figures = runner.check(&Call::Connect(call.clone()))?;
-        let (situations, length) = (figures[3] as usize, figures[6] as usize);
+        let (situations, length) = (figures[SITUATIONS] as usize, figures[LENGTH] as usize);
         if situations > 0 && chance.one_in(3) {
             for records in [situations, situations - 1] {
                 runner.check(&Call::Connect(Connect { records, ..call.clone() }))?;
