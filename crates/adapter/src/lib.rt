@@ -13,6 +13,8 @@ ghost use Rattle.edits.specs.Check.{checkPlanOf, planFaultOf};
 ghost use Rattle.edits_walk.specs.Faults.{faultBy};
 ghost use Rattle.choosing.specs.Convert.{convertInto};
 ghost use Rattle.convert.specs.Answer.{writtenBy};
+ghost use Rattle.named_row.specs.Row.{rowPartOf, rowRefusalOf};
+ghost use Rattle.named_row.specs.Answers.{partOf, refusalOf};
 use comply::Compliance;
 use plan::Stepped;
 
@@ -99,4 +101,25 @@ pub extern "C" fn adapter_from_choosing(choosing: &[u8], sheet: &mut [u8]) -> no
     ensures outcome { λ r. ⌜ writtenBy r (now (sheet .exit)) ≡ convertInto (now (choosing .entry)) (now (sheet .entry)) ⌝ }
 {
     convert::convert(choosing, sheet)
+}
+
+// `named_row::row_part`: the part that `named_row::row_bytes` hands back, told by numbers, as no exported function can return a reference.
+#[no_mangle]
+pub extern "C" fn adapter_row(first: &[u8], second: &[u8], sheet: u8, state: u8) -> named_row::Part
+    ensures { λ r. ⌜ r ≡ partOf (rowPartOf (now (first .entry)) (now (second .entry)) sheet state) ⌝ }
+{
+    named_row::row_part(first, second, sheet, state)
+}
+
+// `named_row::row_refusal`.
+#[no_mangle]
+pub extern "C" fn adapter_row_refusal(
+    first: &[u8],
+    second: &[u8],
+    sheet: u8,
+    state: u8,
+) -> named_row::RowRefusal
+    ensures { λ r. ⌜ r ≡ refusalOf (rowRefusalOf (now (first .entry)) (now (second .entry)) sheet state) ⌝ }
+{
+    named_row::row_refusal(first, second, sheet, state)
 }

@@ -17,7 +17,7 @@ fn print_row(part: named_row::Part, bytes: &[u8]) {
 }
 
 // Asks for the row of a state in the sheet with a number, and prints the line.
-fn print_case(first: &[u8], second: &[u8], sheet: u8, state: u8) {
+fn print_case<'a>(first: &'a [u8], second: &'a [u8], sheet: u8, state: u8) {
     print_refusal(named_row::row_refusal(first, second, sheet, state));
     let part = named_row::row_part(first, second, sheet, state);
     print_row(part, named_row::row_bytes(first, second, sheet, state));

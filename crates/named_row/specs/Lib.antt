@@ -1,3 +1,4 @@
 pub mod Row
 pub mod Answers
 pub mod Promises
+pub mod Cases

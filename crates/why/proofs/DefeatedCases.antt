@@ -19,7 +19,7 @@ use Rattle.why.proofs.NoMeansNone.{refused-for-good}
 
 -- the client check's yes
 abbrev yes : Checked
-yes = record { number = 0; sheet = 0; state = 0; yes = true }
+yes = record { number = 0; sheet = 0; state = 0; offset = 0; yes = true }
 
 -- what holds of a row of the list
 pub record Defeated (c : DefeatedCase) : Type 0 where
