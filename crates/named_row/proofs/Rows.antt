@@ -20,7 +20,7 @@ use Rattle.sheet.specs.declared.Finding.{Finding}
 use Rattle.sheet.specs.declared.Finding.the-variants as F
 use Rattle.sheet.specs.declared.Offer.{Offer}
 use Rattle.sheet.proofs.Answers.{fault-refusal}
-use Rattle.sheet.proofs.Ones.{ones-offered}
+use Rattle.sheet.proofs.Ones.{ones-few, ones-offered}
 use Rattle.sheet.proofs.Whole.{is-read, sheet-stands, row-stands, row-within}
 use Rattle.named_row.specs.Row as row
 use Rattle.named_row.specs.Row.{namedSheet, rowLength, rowInSheet, rowIn, partOr, rowPartOf, refusalOr, rowRefusalOf}
@@ -45,8 +45,10 @@ module _ {b : List ℕ} {q : ℕ} (at : IsState b q) where
   unfolding placeIn offerIn rowLength offers
   row-end e = ap (λ (o : Offer). placeIn o 14) e ∙ omega (arith, ones-offered (state (contractIn b) q .ready))
 
-  pub end-small : {o : Offer} → o ≡ offerIn b q → placeIn o 14 < 2 ^ 64
-  end-small e = omega (arith, row-end e, row-short)
+  -- no place in the row is far off
+  pub place-small : {o : Offer} (j : ℕ) → j ≤ 16 → o ≡ offerIn b q → placeIn o j < 2 ^ 64
+  unfolding placeIn offerIn rowLength
+  place-small {o} j h e = omega (arith, ones-few (o .actions) j, ap (λ (x : Offer). x .successors) e, row-short)
 
   -- where it begins and how far it goes to there
   module _ {begin end : ℕ} {o : Offer} (begins : begin ≡ rowStart b q) (is-offer : o ≡ offerIn b q) (ends : end ≡ placeIn o 14) where

@@ -1,7 +1,7 @@
 -- `named_row::part_in` meets its contract: the row ends where the place behind its last successor is.
 -- Assumes nothing.
 use native.Mathlib.Omega.{arith}
-use Rattle.named_row.proofs.Rows.{end-small, begin-small, begin-first, length-small, part-is}
+use Rattle.named_row.proofs.Rows.{place-small, begin-small, begin-first, length-small, part-is}
 use borrow.Author.Needs.{needs}
 use Rattle.named_row.proofs.part_in.Statement.{statement}
 use Rattle.named_row.proofs.part_in.Tie as tie
@@ -13,7 +13,7 @@ offer-of-requires : tie.Need-offer-of-requires
 offer-of-requires c κs = search needs
 
 place-in-requires : tie.Need-place-in-requires
-place-in-requires c κs = (omega arith, end-small (c .before .before .before .pre) (c .offer-of .ensures))
+place-in-requires c κs = (omega arith, place-small (c .before .before .before .pre) _ (omega arith) (c .offer-of .ensures))
 
 cast-t7 : tie.Need-cast-t7
 cast-t7 c =
