@@ -18,21 +18,7 @@ use Rattle.model.specs.AtFault.{maskPlace, behindMasks, successorCount, 
 use Rattle.model.proofs.Lists.{both-true, place-passes, place-first}
 use Rattle.model.proofs.RowMasks.{length-words, words-place}
 use Rattle.model.proofs.Sheet.{good-injective, check-good, then-good}
-use Rattle.model.proofs.Refusals.{OnlyRefused, only-weaker, only-elim}
-
-module _ {E : Type 0} (P : E → Type 0) where
-  -- a test that fails refuses, and what is behind it is reached only if it passed
-  only-tested : {A : Type 0} (ok : Bool) (e : E) (r : Reading E A) → (ok ≡ false → P e) → (ok ≡ true → OnlyRefused P r) → OnlyRefused P (check ok e r)
-  unfolding check
-  only-tested true e r p o = o refl
-  only-tested false e r p o = p refl
-
-  -- what is behind a result is reached only with it
-  only-read : {A B : Type 0} (r : Reading E A) (f : A → Reading E B) → OnlyRefused P r → ((a : A) → r ≡ good a → OnlyRefused P (f a))
-      → OnlyRefused P (then r f)
-  unfolding then
-  only-read (good a) f o g = g a refl
-  only-read (refusal e) f o g = o
+use Rattle.model.proofs.Refusals.{OnlyRefused, only-tested, only-read, only-weaker, only-elim}
 
 -- ---- the first number out of order
 

@@ -29,6 +29,19 @@ module _ {E : Type 0} (P : E → Type 0) where
   only-then (good a) f o g = g a
   only-then (refusal e) f o g = o
 
+  -- a test that fails refuses, and what is behind it is reached only if it passed
+  pub only-tested : {A : Type 0} (ok : Bool) (e : E) (r : Reading E A) → (ok ≡ false → P e) → (ok ≡ true → OnlyRefused P r) → OnlyRefused P (check ok e r)
+  unfolding check
+  only-tested true e r p o = o refl
+  only-tested false e r p o = p refl
+
+  -- what is behind a result is reached only with it
+  pub only-read : {A B : Type 0} (r : Reading E A) (f : A → Reading E B) → OnlyRefused P r → ((a : A) → r ≡ good a → OnlyRefused P (f a))
+      → OnlyRefused P (then r f)
+  unfolding then
+  only-read (good a) f o g = g a refl
+  only-read (refusal e) f o g = o
+
   pub only-elim : {A : Type 0} (r : Reading E A) (e : E) → OnlyRefused P r → r ≡ refusal e → P e
   only-elim r e o q = subst (OnlyRefused P) q o
 

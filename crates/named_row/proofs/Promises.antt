@@ -9,12 +9,13 @@ use Prim.Native.Nat.{ℕ, zero, suc, _+_, _*_, _≤_, _<_}
 use native.Mathlib.Omega.{arith}
 use lib.ListN.{length, getD, take, drop}
 use lib.Dec.{eqb, ltb}
-use borrow.Author.Tests.{eq-eqb, ne-eqb, eqb-true, eqb-false}
+use borrow.Author.Tests.{ltb-false, eq-eqb, ne-eqb, eqb-true, eqb-false}
 use Rattle.model.specs.Bytes.{byte, word, le16}
 use Rattle.model.specs.Contract.{State, state, offers}
 use Rattle.model.specs.Sheet.{Reading, good, refusal, check, then, Fault, Trailer, trailer, Sheet, readSheet, rowStart, Refusal, inPlace, plain}
 use Rattle.model.specs.AtFault.{Carries}
-use Rattle.model.proofs.Refusals.{OnlyRefused, only-check, only-then, only-elim, sheet-numbers}
+use Rattle.model.proofs.Refusals.{OnlyRefused, only-tested, only-read, only-elim, sheet-numbers}
+use Rattle.model.proofs.Sheet.{place-good}
 use Rattle.model.proofs.Carried.{plain-carries, in-place}
 use Rattle.nodes.specs.SheetBytes.{maskBytes, stateRowBytes}
 use Rattle.nodes.proofs.Bytes.{At, at-cast, length-16}
@@ -68,48 +69,52 @@ only-both : {E A : Type 0} (P Q : E → Type 0) (r : Reading E A) → OnlyRefuse
 only-both P Q (good a) p q = tt
 only-both P Q (refusal e) p q = (p, q)
 
-module _ (first second : List ℕ) (sheet : ℕ) where
-  -- the number names a sheet
-  abbrev Named : Type 0
-  Named = (sheet ≡ 1) ⊎ (sheet ≡ 2)
+module _ (first second : List ℕ) (sheet q : ℕ) where
+  -- the number names these bytes
+  abbrev Named : List ℕ → Type 0
+  Named b = ((sheet ≡ 1) × (b ≡ first)) ⊎ ((sheet ≡ 2) × (b ≡ second))
 
   data Why (r : Refusal) : Type 0 where
-    of-sheet : Named → 1 ≤ r .number → r .number ≤ 7 → r .sheet ≡ sheet → Why r
+    of-sheet : (b : List ℕ) → Named b → 1 ≤ r .number → r .number ≤ 7 → r .sheet ≡ sheet → Why r
     of-number : (sheet ≡ 1 → ⊥) → (sheet ≡ 2 → ⊥) → r ≡ plain 8 0 → Why r
-    of-state : Named → r ≡ plain 15 0 → Why r
+    of-state : (b : List ℕ) → Named b → (s : Sheet) → readSheet b ≡ good s → length (s .contract .states) ≤ q → r ≡ plain 15 0 → Why r
 
   abbrev Refused : Refusal → Type 0
   Refused r = Why r × Carries first second r
 
-  place-why : Named → (read : Reading Fault Sheet) → OnlyRefused (λ (f : Fault). (1 ≤ f .number) × (f .number ≤ 7)) read
+  place-why : (b : List ℕ) → Named b → (read : Reading Fault Sheet) → OnlyRefused (λ (f : Fault). (1 ≤ f .number) × (f .number ≤ 7)) read
       → OnlyRefused Why (inPlace sheet read)
   unfolding inPlace
-  place-why named (good s) o = tt
-  place-why named (refusal f) o = of-sheet named (o .0) (o .1) refl
+  place-why b named (good s) o = tt
+  place-why b named (refusal f) o = of-sheet b named (o .0) (o .1) refl
 
   -- in the sheet that is named
-  sheet-refused : Named → (b : List ℕ) → (q : ℕ)
-      → OnlyRefused (Carries first second) (inPlace sheet (readSheet b)) → OnlyRefused Refused (rowInSheet sheet b q)
+  sheet-refused : (b : List ℕ) → Named b → OnlyRefused (Carries first second) (inPlace sheet (readSheet b)) → OnlyRefused Refused (rowInSheet sheet b q)
   unfolding rowInSheet
-  sheet-refused named b q carries =
-      only-then Refused (inPlace sheet (readSheet b)) _
-      (only-both Why (Carries first second) (inPlace sheet (readSheet b)) (place-why named (readSheet b) (sheet-numbers b)) carries)
-      (λ s.
-      only-check Refused (ltb q (length (s .contract .states))) _ _ (of-state named refl, plain-carries first second 15 0 (inr (omega arith))) tt)
+  sheet-refused b named carries =
+      only-read Refused (inPlace sheet (readSheet b)) _
+      (only-both Why (Carries first second) (inPlace sheet (readSheet b)) (place-why b named (readSheet b) (sheet-numbers b)) carries)
+      (λ s e.
+      only-tested Refused (ltb q (length (s .contract .states))) _ _
+      (λ h. (
+        of-state b named s (place-good sheet (readSheet b) e) (ltb-false q (length (s .contract .states)) h) refl,
+        plain-carries first second 15 0 (inr (omega arith)),
+      ))
+      (λ _. tt))
 
-  row-refused : (q : ℕ) → OnlyRefused Refused (rowIn first second sheet q)
+  row-refused : OnlyRefused Refused (rowIn first second sheet q)
   unfolding rowIn namedSheet then
-  row-refused q = go (eqb sheet 1) (eqb sheet 2) refl refl
+  row-refused = go (eqb sheet 1) (eqb sheet 2) refl refl
     where
       go : (one two : Bool) → eqb sheet 1 ≡ one → eqb sheet 2 ≡ two
           → OnlyRefused Refused
           (then (cond one (good first) (cond two (good second) (refusal (plain 8 0)))) (λ (b : List ℕ). rowInSheet sheet b q))
       go true two e d =
           let is : sheet ≡ 1 = eqb-true sheet 1 e in
-          sheet-refused (inl is) first q (in-place first second sheet first (λ r at reads. inl (at ∙ is, reads)))
+          sheet-refused first (inl (is, refl)) (in-place first second sheet first (λ r at reads. inl (at ∙ is, reads)))
       go false true e d =
           let is : sheet ≡ 2 = eqb-true sheet 2 d in
-          sheet-refused (inr is) second q (in-place first second sheet second (λ r at reads. inr (at ∙ is, reads)))
+          sheet-refused second (inr (is, refl)) (in-place first second sheet second (λ r at reads. inr (at ∙ is, reads)))
       go false false e d =
           (of-number (eqb-false sheet 1 e) (eqb-false sheet 2 d) refl, plain-carries first second 8 0 (inr (omega arith)))
 
@@ -128,15 +133,16 @@ module _ (first second : List ℕ) (sheet q : ℕ) where
   unfolding rowPartOf partOr
   empty-is r e = ap partOr e
 
-  refuses : (r : Refusal) → rowIn first second sheet q ≡ refusal r → Refused first second sheet r → RefusesRow first second sheet q
+  refuses : (r : Refusal) → rowIn first second sheet q ≡ refusal r → Refused first second sheet q r → RefusesRow first second sheet q
   unfolding plain
-  refuses r e (of-sheet named low high at, carries) =
+  refuses r e (of-sheet b named low high at, carries) =
       let n : answer .number ≡ r .number = ap (λ (x : Refusal). x .number) (answer-is r e) in
       record {
         number = inl (omega arith);
-        unnamed = ((λ w. absurd (omega arith)), (λ none. absurd (⊎-elim (none .0) (none .1) named)));
+        unnamed = ((λ w. absurd (omega arith)), (λ none. absurd (⊎-elim (λ w. none .0 (w .0)) (λ w. none .1 (w .0)) named)));
         carries = subst⁻¹ (Carries first second) (answer-is r e) carries;
         named = λ _ _. ap (λ (x : Refusal). x .sheet) (answer-is r e) ∙ at;
+        no-state = λ w. absurd (omega arith);
         no-sheet = λ w. absurd (omega arith);
         empty = λ _. empty-is r e;
       }
@@ -147,16 +153,19 @@ module _ (first second : List ℕ) (sheet q : ℕ) where
         unnamed = ((λ _. (one, two)), (λ _. n));
         carries = subst⁻¹ (Carries first second) (answer-is r e) carries;
         named = λ _ high. absurd (omega arith);
+        no-state = λ w. absurd (omega arith);
         no-sheet = λ _. ap (λ (x : Refusal). x .sheet) (answer-is r e ∙ is);
         empty = λ _. empty-is r e;
       }
-  refuses r e (of-state named is, carries) =
+  refuses r e (of-state b named s reads beyond is, carries) =
       let n : answer .number ≡ 15 = ap (λ (x : Refusal). x .number) (answer-is r e ∙ is) in
       record {
         number = inr n;
-        unnamed = ((λ w. absurd (omega arith)), (λ none. absurd (⊎-elim (none .0) (none .1) named)));
+        unnamed = ((λ w. absurd (omega arith)), (λ none. absurd (⊎-elim (λ w. none .0 (w .0)) (λ w. none .1 (w .0)) named)));
         carries = subst⁻¹ (Carries first second) (answer-is r e) carries;
         named = λ _ high. absurd (omega arith);
+        no-state = λ _.
+            (s, ⊎-elim (λ w. inl (w .0, ap readSheet (sym (w .1)) ∙ reads)) (λ w. inr (w .0, ap readSheet (sym (w .1)) ∙ reads)) named, beyond);
         no-sheet = λ _. ap (λ (x : Refusal). x .sheet) (answer-is r e ∙ is);
         empty = λ _. empty-is r e;
       }
@@ -177,6 +186,7 @@ module _ (first second : List ℕ) (sheet q : ℕ) where
         unnamed = ((λ w. absurd (omega arith)), (λ none. absurd (⊎-elim (λ w. none .0 (w .0)) (λ w. none .1 (w .0)) (h .named))));
         carries = subst⁻¹ (Carries first second) is (plain-carries first second 0 0 (inl refl));
         named = λ low _. absurd (omega arith);
+        no-state = λ w. absurd (omega arith);
         no-sheet = λ w. absurd (omega arith);
         empty = λ w. absurd (w n);
       }
@@ -223,7 +233,7 @@ by-reading C (refusal e) f g = g e refl
 pub row-refuses : RowRefuses
 row-refuses first second sheet q =
     by-reading (RefusesRow first second sheet q) (rowIn first second sheet q) (answers first second sheet q)
-    (λ r e. refuses first second sheet q r e (only-elim (Refused first second sheet) (rowIn first second sheet q) r (row-refused first second sheet q) e))
+    (λ r e. refuses first second sheet q r e (only-elim (Refused first second sheet q) (rowIn first second sheet q) r (row-refused first second sheet q) e))
 
 pub row-hands-back : RowHandsBack
 unfolding plain
@@ -231,13 +241,13 @@ row-hands-back first second sheet q none =
     by-reading (HandsBack first second sheet q) (rowIn first second sheet q) (hands-back first second sheet q)
     (λ r e.
     absurd
-    (some-number r (only-elim (Refused first second sheet) (rowIn first second sheet q) r (row-refused first second sheet q) e .0)
+    (some-number r (only-elim (Refused first second sheet q) (rowIn first second sheet q) r (row-refused first second sheet q) e .0)
     (ap (λ (x : Refusal). x .number) (sym (answer-is first second sheet q r e)) ∙ none)))
   where
-    some-number : (r : Refusal) → Why first second sheet r → r .number ≡ 0 → ⊥
-    some-number r (of-sheet named low high at) z = omega arith
+    some-number : (r : Refusal) → Why first second sheet q r → r .number ≡ 0 → ⊥
+    some-number r (of-sheet b named low high at) z = omega arith
     some-number r (of-number one two is) z = omega (arith, number-of 8 r is)
-    some-number r (of-state named is) z = omega (arith, number-of 15 r is)
+    some-number r (of-state b named s reads beyond is) z = omega (arith, number-of 15 r is)
 
 pub other-not-tested : OtherNotTested
 unfolding rowIn namedSheet then

@@ -33,6 +33,9 @@ module _ (first second : List ℕ) (sheet q : ℕ) where
     -- "1 to 7 if the named one is broken": what it is refused for by itself, with state and offset; the sheet is the one that is named
     pub carries : Carries first second refused
     pub named : 1 ≤ refused .number → refused .number ≤ 7 → refused .sheet ≡ sheet
+    -- "15 for a state not in it": the named one is a sheet, with no more states than that
+    pub no-state : refused .number ≡ 15
+        → (s : Sheet) × (((sheet ≡ 1) × (readSheet first ≡ good s)) ⊎ ((sheet ≡ 2) × (readSheet second ≡ good s))) × (length (s .contract .states) ≤ q)
     -- 8 and 15 carry no sheet
     pub no-sheet : 8 ≤ refused .number → refused .sheet ≡ 0
     -- "each with an empty part of the first sheet"

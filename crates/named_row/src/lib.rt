@@ -26,7 +26,7 @@ pub struct RowRefusal {
 }
 
 // The part that a row is, or a refusal: number, sheet, state, offset of the byte at fault.
-pub enum Found {
+enum Found {
     At(Part),
     Refused(u8, u8, u8, u16),
 }
