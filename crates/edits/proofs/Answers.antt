@@ -15,7 +15,7 @@ use Rattle.model.specs.Sheet.{Reading, good, refusal, Refusal, plain, Both, rea
 use Rattle.model.specs.Test.{Mode}
 use Rattle.model.specs.Plan.{Plan, readPlan}
 use Rattle.model.specs.Connect.{limitOf, refused}
-use Rattle.model.specs.AtFault.{Carries, inAnswer}
+use Rattle.model.specs.AtFault.{Carries}
 use Rattle.model.proofs.Carried.{plain-carries, both-carries, refused-carries}
 use Rattle.model.proofs.Lists.{or-cases, cond-yes, cond-no}
 use Rattle.model.proofs.Refusals.{OnlyRefused, InTable, both-numbers}

@@ -1,11 +1,11 @@
 -- What answers carry: a refusal of two sheets is that of one of them, with its state and offset, or has neither; connecting and the client
 -- check hand it on, and all their other answers have neither.
 -- Assumes nothing.
-use mathlib.Core.Path.{_≡_, refl, sym, ap, _∙_}
+use mathlib.Core.Path.{_≡_, refl}
 use mathlib.Core.Bool.{Bool, true, false, cond}
 use mathlib.Core.Logic.{_⊎_, inl, inr, ⊎-elim}
 use mathlib.Core.List.{List}
-use Prim.Native.Nat.{ℕ, _≤_, _<_}
+use Prim.Native.Nat.{ℕ, _<_}
 use native.Mathlib.Omega.{arith}
 use lib.ListN.{length}
 use lib.Dec.{eqb, leb}
@@ -13,7 +13,7 @@ use Rattle.model.specs.Contract.{Contract}
 use Rattle.model.specs.Sheet.{Reading, good, refusal, Fault, Sheet, readSheet, Refusal, inPlace, plain, Both, readBoth}
 use Rattle.model.specs.Situation.{Situation}
 use Rattle.model.specs.Test.{Mode, test}
-use Rattle.model.specs.Connect.{Outcome, refused, counted, connected, limitOf, ranked, outcomeOf, connectOf}
+use Rattle.model.specs.Connect.{refused, counted, connected, limitOf, ranked, outcomeOf, connectOf}
 use Rattle.model.specs.Client.{complies, compliesIn, compliesOf}
 use Rattle.model.specs.AtFault.{carriedFault, Carries, inAnswer, inChecked, Carried}
 use Rattle.model.proofs.Refusals.{OnlyRefused, only-check, only-then, only-elim, sheet-numbers}

@@ -29,6 +29,7 @@ pub mod Run
 pub mod PlanRuns
 pub mod History
 pub mod Refusals
+pub mod AtFaultRows
 pub mod AtFault
 pub mod AmendedMasks
 pub mod AmendedRows

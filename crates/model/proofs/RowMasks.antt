@@ -1,14 +1,14 @@
 -- The masks of a row, one at a time: what reading gives where the first of them has a stray bit, where it is out of order, and where it is
--- neither. By cases on the tests.
+-- neither. By cases on the tests. And which of them the first one out of order is.
 -- Assumes nothing.
 use mathlib.Core.Path.{_≡_, refl, ap, _∙_}
-use mathlib.Core.Bool.{Bool, true, false}
+use mathlib.Core.Bool.{Bool, true, false, cond}
 use mathlib.Core.List.{List, [], _∷_}
 use Prim.Native.Nat.{ℕ, zero, suc, _+_, _*_, _≤_, _<_}
 use native.Mathlib.Omega.{arith}
 use lib.ListN.{length, getD}
 use lib.Dec.{leb, leb·suc-zero, leb·suc-suc}
-use borrow.Author.Tests.{le-leb, lt-leb}
+use borrow.Author.Tests.{leb-true, leb-false, le-leb, lt-leb}
 use Rattle.model.specs.Lists.{place}
 use Rattle.model.specs.Bytes.{word}
 use Rattle.model.specs.Sheet.{Reading, good, refusal, check, then, Fault, Trailer, strayBit, outOfOrder, wordsFrom, masksFrom}
@@ -95,3 +95,49 @@ module _ (b : List ℕ) (t : Trailer) (q least i left : ℕ) where
       (one-mask-more (leb left stray) (leb left low) _ _ _ _ (word b i) (wordsFrom b left (i + 2))
       (ap (λ o. record { number = 6; state = q; offset = o }) (omega arith))
       (ap (λ o. record { number = 5; state = q; offset = o }) (omega arith)))
+
+-- the first number out of order is not above the one before it
+pub order-breaks : (least : ℕ) (l : List ℕ) (m : ℕ) → outOfOrder least l ≡ suc m → suc m < length l → getD l (suc m) 0 ≤ getD l m 0
+unfolding outOfOrder
+order-breaks least [] m e h = absurd (omega arith)
+order-breaks least (x ∷ []) m e h = absurd (omega arith)
+order-breaks least (x ∷ y ∷ l) zero e h = go (leb least x) (leb (suc x) y) refl e
+  where
+    go : (first second : Bool) → leb (suc x) y ≡ second → cond first (suc (cond second (suc (outOfOrder (suc y) l)) zero)) zero ≡ 1 → y ≤ x
+    go true true q e = absurd (omega arith)
+    go true false q e = omega (arith, leb-false (suc x) y q)
+    go false second q e = absurd (omega arith)
+order-breaks least (x ∷ y ∷ l) (suc m) e h = go (leb least x) e (λ d. order-breaks (suc x) (y ∷ l) m d (omega arith))
+  where
+    go : (first : Bool) → cond first (suc (outOfOrder (suc x) (y ∷ l))) zero ≡ suc (suc m)
+        → (outOfOrder (suc x) (y ∷ l) ≡ suc m → getD (y ∷ l) (suc m) 0 ≤ getD (y ∷ l) m 0) → getD (y ∷ l) (suc m) 0 ≤ getD (y ∷ l) m 0
+    go true e rest = rest (omega arith)
+    go false e rest = absurd (omega arith)
+
+-- and those before it ascend
+pub order-holds : (least : ℕ) (l : List ℕ) (m : ℕ) → suc m < outOfOrder least l → getD l m 0 < getD l (suc m) 0
+unfolding outOfOrder
+order-holds least [] m h = absurd (omega arith)
+order-holds least (x ∷ []) m h = go (leb least x) h
+  where
+    go : (first : Bool) → suc m < cond first (suc zero) zero → getD (x ∷ []) m 0 < getD (x ∷ []) (suc m) 0
+    go true h = absurd (omega arith)
+    go false h = absurd (omega arith)
+order-holds least (x ∷ y ∷ l) zero h = go (leb least x) (leb (suc x) y) refl h
+  where
+    go : (first second : Bool) → leb (suc x) y ≡ second → 1 < cond first (suc (cond second (suc (outOfOrder (suc y) l)) zero)) zero → x < y
+    go true true q h = omega (arith, leb-true (suc x) y q)
+    go true false q h = absurd (omega arith)
+    go false second q h = absurd (omega arith)
+order-holds least (x ∷ y ∷ l) (suc m) h = go (leb least x) h (order-holds (suc x) (y ∷ l) m)
+  where
+    go : (first : Bool) → suc (suc m) < cond first (suc (outOfOrder (suc x) (y ∷ l))) zero
+        → (suc m < outOfOrder (suc x) (y ∷ l) → getD (y ∷ l) m 0 < getD (y ∷ l) (suc m) 0) → getD (y ∷ l) m 0 < getD (y ∷ l) (suc m) 0
+    go true h rest = rest (omega arith)
+    go false h rest = absurd (omega arith)
+
+-- the first of all is never out of order
+pub order-begins : (l : List ℕ) → 0 < length l → 0 < outOfOrder 0 l
+unfolding outOfOrder
+order-begins [] h = absurd (omega arith)
+order-begins (x ∷ l) h = rw (le-leb 0 x (omega arith)) (omega arith)

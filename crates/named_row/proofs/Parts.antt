@@ -1,8 +1,7 @@
 -- The part that is handed back lies within its sheet: a row does, and so does the empty part. The slice that is cut there is that part.
 -- Assumes nothing.
 use mathlib.Core.Path.{_≡_, refl, sym, ap, subst, subst⁻¹, _∙_}
-use mathlib.Core.Bool.{Bool, true, false, cond}
-use mathlib.Core.Logic.{_⊎_, inl, inr, ⊎-elim}
+use mathlib.Core.Bool.{true, false}
 use mathlib.Core.List.{List}
 use Prim.Native.Nat.{ℕ, _+_, _-_, _≤_, _<_}
 use native.Mathlib.Omega.{arith}
@@ -17,7 +16,7 @@ use Rattle.named_row.specs.Row as row
 use Rattle.named_row.specs.Row.{rowLength, rowIn, partOr, rowPartOf, wholeOf, cut}
 use Rattle.named_row.specs.Answers.{partOf, IsPart}
 use Rattle.named_row.specs.declared.Part.{Part}
-use Rattle.named_row.proofs.Rows.{Handed, handed, row-fits}
+use Rattle.named_row.proofs.Rows.{Handed, handed, handed-of, row-fits}
 
 -- a row is within its sheet
 pub row-inside : (b : List ℕ) (s : Sheet) (q : ℕ) → readSheet b ≡ good s → q < length (s .contract .states)
@@ -30,19 +29,14 @@ row-inside b s q reads within =
 
 module _ (first second : List ℕ) (sheet q : ℕ) where
   handed-inside : (x : row.Part) → Handed first second sheet q x → x .offset + x .length ≤ length (wholeOf x first second)
-  unfolding wholeOf
   handed-inside x h =
-      subst (λ (p : row.Part). p .offset + p .length ≤ length (wholeOf p first second)) (h .is)
-      (⊎-elim (λ w. of-first (w .0) (w .1)) (λ w. of-second (w .0) (w .1)) (h .named))
-    where
-      inside : rowStart (h .bytes) q + rowLength (state (h .read .contract) q) ≤ length (h .bytes)
-      inside = row-inside (h .bytes) (h .read) q (h .reads) (h .within)
-
-      of-first : sheet ≡ 1 → h .bytes ≡ first → rowStart (h .bytes) q + rowLength (state (h .read .contract) q) ≤ length (cond (eqb sheet 2) second first)
-      of-first e is = rw (ne-eqb sheet 2 (λ d. omega arith)) (omega (arith, inside, ap (λ (l : List ℕ). length l) is))
-
-      of-second : sheet ≡ 2 → h .bytes ≡ second → rowStart (h .bytes) q + rowLength (state (h .read .contract) q) ≤ length (cond (eqb sheet 2) second first)
-      of-second e is = rw (eq-eqb sheet 2 e) (omega (arith, inside, ap (λ (l : List ℕ). length l) is))
+      omega (
+        arith,
+        row-inside (h .bytes) (h .read) q (h .reads) (h .within),
+        ap (λ (p : row.Part). p .offset) (h .is),
+        ap (λ (p : row.Part). p .length) (h .is),
+        ap (λ (l : List ℕ). length l) (handed-of first second sheet q x h),
+      )
 
   part-inside : rowPartOf first second sheet q .offset + rowPartOf first second sheet q .length
       ≤ length (wholeOf (rowPartOf first second sheet q) first second)

@@ -3,61 +3,25 @@
 -- Assumes nothing.
 use mathlib.Core.Path.{_≡_, refl, sym, ap, subst, subst⁻¹, _∙_}
 use mathlib.Core.Bool.{Bool, true, false, cond}
-use mathlib.Core.Logic.{_↔_, _⊎_, inl, inr, ⊎-elim}
-use mathlib.Core.List.{List, [], _∷_, _++_}
-use Prim.Native.Nat.{ℕ, zero, suc, _+_, _*_, _≤_, _<_}
+use mathlib.Core.Logic.{inl, inr, ⊎-elim}
+use mathlib.Core.List.{List}
+use Prim.Native.Nat.{ℕ, _≤_, _<_}
 use native.Mathlib.Omega.{arith}
-use lib.ListN.{length, getD, take, drop}
+use lib.ListN.{length, take, drop}
 use lib.Dec.{eqb, ltb}
-use borrow.Author.Tests.{ltb-false, eq-eqb, ne-eqb, eqb-true, eqb-false}
-use Rattle.model.specs.Bytes.{byte, word, le16}
-use Rattle.model.specs.Contract.{State, state, offers}
-use Rattle.model.specs.Sheet.{Reading, good, refusal, check, then, Fault, Trailer, trailer, Sheet, readSheet, rowStart, Refusal, inPlace, plain}
+use borrow.Author.Tests.{ltb-false, eqb-true, eqb-false}
+use Rattle.model.specs.Bytes.{byte}
+use Rattle.model.specs.Contract.{state}
+use Rattle.model.specs.Sheet.{Reading, good, refusal, then, Fault, Sheet, readSheet, rowStart, Refusal, inPlace, plain}
 use Rattle.model.specs.AtFault.{Carries}
 use Rattle.model.proofs.Refusals.{OnlyRefused, only-tested, only-read, only-elim, sheet-numbers}
 use Rattle.model.proofs.Sheet.{place-good}
 use Rattle.model.proofs.Carried.{plain-carries, in-place}
-use Rattle.nodes.specs.SheetBytes.{maskBytes, stateRowBytes}
-use Rattle.nodes.proofs.Bytes.{At, at-cast, length-16}
-use Rattle.nodes.proofs.Sheets.{length-masks, length-row}
-use Rattle.nodes.proofs.Standing.{at-none, at-cons, at-append, at-16, at-part}
-use Rattle.sheet.proofs.Rows.{RowStands}
-use Rattle.sheet.proofs.Whole.{row-of}
 use Rattle.named_row.specs.Row.{Part, namedSheet, rowLength, rowInSheet, rowIn, partOr, rowPartOf, refusalOr, rowRefusalOf, wholeOf, cut}
 use Rattle.named_row.specs.Promises.{RefusesRow, RowRefuses, HandsBack, RowHandsBack, OtherNotTested}
-use Rattle.named_row.proofs.Rows.{Handed, handed}
+use Rattle.named_row.proofs.Rows.{Named, handed, handed-of}
 use Rattle.named_row.proofs.Parts.{row-inside}
-
--- ---- the row's own bytes
-
-module _ (b : List ℕ) (small : (i : ℕ) → byte b i < 256) where
-  masks-stand : (i : ℕ) (masks : List ℕ) → ((k : ℕ) → k < length masks → word b (i + 2 * k) ≡ getD masks k 0) → At b i (maskBytes masks)
-  unfolding maskBytes
-  masks-stand i [] h = at-none b i
-  masks-stand i (m ∷ masks) h =
-      at-append b i (le16 m) (maskBytes masks)
-      (at-16 b i m (small i) (small (i + 1)) (let e : i ≡ i + 2 * 0 = omega arith in ap (word b) e ∙ h 0 (omega arith)))
-      (at-cast b (i + 2) (i + length (le16 m)) (maskBytes masks) (omega (arith, length-16 m))
-      (masks-stand (i + 2) masks (λ k l. let e : i + 2 + 2 * k ≡ i + 2 * suc k = omega arith in ap (word b) e ∙ h (suc k) (omega arith))))
-
-  row-stands-own : (t : Trailer) (i : ℕ) (s : State) → RowStands b t i s → At b i (stateRowBytes s)
-  unfolding stateRowBytes byte
-  row-stands-own t i s row =
-      at-cons b i (length (s .ready)) (maskBytes (s .ready) ++ s .successors) (row .count)
-      (at-append b (i + 1) (maskBytes (s .ready)) (s .successors) (masks-stand (i + 1) (s .ready) (row .masks))
-      (at-cast b (i + 1 + 2 * length (s .ready)) (i + 1 + length (maskBytes (s .ready))) (s .successors) (omega (arith, length-masks (s .ready)))
-      (row .successors)))
-
-  -- the part of a state's row has the bytes of that row
-  row-own : (s : Sheet) (q : ℕ) → readSheet b ≡ good s → q < length (s .contract .states)
-      → take (rowLength (state (s .contract) q)) (drop (rowStart b q) b) ≡ stateRowBytes (state (s .contract) q)
-  unfolding rowLength offers
-  row-own s q reads there =
-      let x : State = state (s .contract) q in
-      let row = row-of b s reads q there in
-      let long : length (stateRowBytes x) ≡ rowLength x = omega (arith, length-row x, row .offered) in
-      ap (λ (n : ℕ). take n (drop (rowStart b q) b)) (sym long)
-      ∙ at-part b (rowStart b q) (stateRowBytes x) (row-stands-own (trailer b) (rowStart b q) x row) (omega (arith, row-inside b s q reads there))
+use Rattle.named_row.proofs.Own.{row-own}
 
 -- ---- why there is no row
 
@@ -70,26 +34,22 @@ only-both P Q (good a) p q = tt
 only-both P Q (refusal e) p q = (p, q)
 
 module _ (first second : List ℕ) (sheet q : ℕ) where
-  -- the number names these bytes
-  abbrev Named : List ℕ → Type 0
-  Named b = ((sheet ≡ 1) × (b ≡ first)) ⊎ ((sheet ≡ 2) × (b ≡ second))
-
   data Why (r : Refusal) : Type 0 where
-    of-sheet : (b : List ℕ) → Named b → 1 ≤ r .number → r .number ≤ 7 → r .sheet ≡ sheet → Why r
+    of-sheet : (b : List ℕ) → Named first second sheet b → 1 ≤ r .number → r .number ≤ 7 → r .sheet ≡ sheet → Why r
     of-number : (sheet ≡ 1 → ⊥) → (sheet ≡ 2 → ⊥) → r ≡ plain 8 0 → Why r
-    of-state : (b : List ℕ) → Named b → (s : Sheet) → readSheet b ≡ good s → length (s .contract .states) ≤ q → r ≡ plain 15 0 → Why r
+    of-state : (b : List ℕ) → Named first second sheet b → (s : Sheet) → readSheet b ≡ good s → length (s .contract .states) ≤ q → r ≡ plain 15 0 → Why r
 
   abbrev Refused : Refusal → Type 0
   Refused r = Why r × Carries first second r
 
-  place-why : (b : List ℕ) → Named b → (read : Reading Fault Sheet) → OnlyRefused (λ (f : Fault). (1 ≤ f .number) × (f .number ≤ 7)) read
+  place-why : (b : List ℕ) → Named first second sheet b → (read : Reading Fault Sheet) → OnlyRefused (λ (f : Fault). (1 ≤ f .number) × (f .number ≤ 7)) read
       → OnlyRefused Why (inPlace sheet read)
   unfolding inPlace
   place-why b named (good s) o = tt
   place-why b named (refusal f) o = of-sheet b named (o .0) (o .1) refl
 
   -- in the sheet that is named
-  sheet-refused : (b : List ℕ) → Named b → OnlyRefused (Carries first second) (inPlace sheet (readSheet b)) → OnlyRefused Refused (rowInSheet sheet b q)
+  sheet-refused : (b : List ℕ) → Named first second sheet b → OnlyRefused (Carries first second) (inPlace sheet (readSheet b)) → OnlyRefused Refused (rowInSheet sheet b q)
   unfolding rowInSheet
   sheet-refused b named carries =
       only-read Refused (inPlace sheet (readSheet b)) _
@@ -195,19 +155,13 @@ module _ (first second : List ℕ) (sheet q : ℕ) where
   unfolding rowPartOf partOr
   part-is-row x e = ap partOr e
 
-  -- the sheet that the part is of is the one that is named
-  whole-is : (b : List ℕ) → ((sheet ≡ 1) × (b ≡ first)) ⊎ ((sheet ≡ 2) × (b ≡ second)) → cond (eqb sheet 2) second first ≡ b
-  whole-is b (inl w) = rw (ne-eqb sheet 2 (λ d. omega (arith, w .0))) (sym (w .1))
-  whole-is b (inr w) = rw (eq-eqb sheet 2 (w .0)) (sym (w .1))
-
   hands-back : (x : Part) → rowIn first second sheet q ≡ good x → HandsBack first second sheet q
-  unfolding wholeOf cut
+  unfolding cut
   hands-back x e =
       let h = handed first second sheet q x e in
-      let is : rowPartOf first second sheet q ≡ record { sheet = sheet; offset = rowStart (h .bytes) q; length = rowLength (state (h .read .contract) q) } =
-      part-is-row x e ∙ sym (h .is) in
+      let is = part-is-row x e ∙ h .is in
       let of : wholeOf (rowPartOf first second sheet q) first second ≡ h .bytes =
-      ap (λ (p : Part). wholeOf p first second) is ∙ whole-is (h .bytes) (h .named) in
+      ap (λ (p : Part). wholeOf p first second) (part-is-row x e) ∙ handed-of first second sheet q x h in
       let begin : rowPartOf first second sheet q .offset ≡ rowStart (h .bytes) q = ap (λ (p : Part). p .offset) is in
       let long : rowPartOf first second sheet q .length ≡ rowLength (state (h .read .contract) q) = ap (λ (p : Part). p .length) is in
       record {
@@ -218,8 +172,14 @@ module _ (first second : List ℕ) (sheet q : ℕ) where
         there = h .within;
         begins = begin ∙ ap (λ (b : List ℕ). rowStart b q) (sym of);
         long = long;
-        inside = subst⁻¹ (λ (b : List ℕ). rowPartOf first second sheet q .offset + rowPartOf first second sheet q .length ≤ length b) of
-            (omega (arith, begin, long, row-inside (h .bytes) (h .read) q (h .reads) (h .within)));
+        inside =
+            omega (
+              arith,
+              begin,
+              long,
+              row-inside (h .bytes) (h .read) q (h .reads) (h .within),
+              ap (λ (l : List ℕ). length l) of,
+            );
         own = λ small.
             (λ i. take (long i) (drop (begin i) (of i)))
             ∙ row-own (h .bytes) (subst (λ (b : List ℕ). (i : ℕ) → byte b i < 256) of small) (h .read) q (h .reads) (h .within);

@@ -1,7 +1,7 @@
 -- Finding a row step by step, as the code does: a number that names no sheet, a sheet that is refused, a state that is not in it, or the
 -- row, which ends where its last successor does.
 -- Assumes nothing.
-use mathlib.Core.Path.{_≡_, refl, sym, ap, subst, _∙_}
+use mathlib.Core.Path.{_≡_, refl, sym, ap, _∙_}
 use mathlib.Core.Bool.{Bool, true, false, cond}
 use mathlib.Core.Logic.{_⊎_, inl, inr}
 use mathlib.Core.List.{List}
@@ -9,9 +9,9 @@ use Prim.Native.Nat.{ℕ, _+_, _-_, _^_, _≤_, _<_}
 use native.Mathlib.Omega.{arith}
 use lib.ListN.{length}
 use lib.Dec.{eqb, ltb→lt}
-use borrow.Author.Tests.{lt-ltb, le-ltb, ne-eqb, eqb-true}
+use borrow.Author.Tests.{lt-ltb, le-ltb, eq-eqb, ne-eqb, eqb-true}
 use Rattle.model.specs.Contract.{state, offers}
-use Rattle.model.specs.Sheet.{Reading, good, refusal, check, then, Sheet, readSheet, rowStart, sheetOf, contractIn, Refusal, inPlace, plain}
+use Rattle.model.specs.Sheet.{Reading, good, refusal, check, then, Sheet, readSheet, rowStart, contractIn, Refusal, inPlace, plain}
 use Rattle.model.proofs.Sheet.{never-good, good-injective, check-good, then-good, place-good}
 use Rattle.sheet.specs.Answers.{findingOf}
 use Rattle.sheet.specs.Offer.{offerIn, placeIn}
@@ -23,7 +23,7 @@ use Rattle.sheet.proofs.Answers.{fault-refusal}
 use Rattle.sheet.proofs.Ones.{ones-few, ones-offered}
 use Rattle.sheet.proofs.Whole.{is-read, sheet-stands, row-stands, row-within}
 use Rattle.named_row.specs.Row as row
-use Rattle.named_row.specs.Row.{namedSheet, rowLength, rowInSheet, rowIn, partOr, rowPartOf, refusalOr, rowRefusalOf}
+use Rattle.named_row.specs.Row.{namedSheet, rowLength, rowInSheet, rowIn, partOr, rowPartOf, refusalOr, rowRefusalOf, wholeOf}
 use Rattle.named_row.specs.Answers.{partOf, refusalOf, foundOf}
 use Rattle.named_row.specs.declared.Part.{Part}
 use Rattle.named_row.specs.declared.RowRefusal.{RowRefusal}
@@ -167,23 +167,26 @@ module _ (first second : List ℕ) (sheet q : ℕ) where
 
 -- ---- what is handed back
 
+-- the number names these bytes
+abbrev pub Named : (first second : List ℕ) (sheet : ℕ) → List ℕ → Type 0
+Named first second sheet b = ((sheet ≡ 1) × (b ≡ first)) ⊎ ((sheet ≡ 2) × (b ≡ second))
+
 -- the row x of state q in the sheet with a number
 pub record Handed (first second : List ℕ) (sheet q : ℕ) (x : row.Part) : Type 0 where
   pub bytes : List ℕ
-  pub named : ((sheet ≡ 1) × (bytes ≡ first)) ⊎ ((sheet ≡ 2) × (bytes ≡ second))
+  pub named : Named first second sheet bytes
   pub read : Sheet
   pub reads : readSheet bytes ≡ good read
   pub within : q < length (read .contract .states)
-  pub is : record { sheet = sheet; offset = rowStart bytes q; length = rowLength (state (read .contract) q) } ≡ x
+  pub is : x ≡ record { sheet = sheet; offset = rowStart bytes q; length = rowLength (state (read .contract) q) }
 
 module _ (first second : List ℕ) (sheet q : ℕ) where
-  which : (b : List ℕ) → namedSheet first second sheet ≡ good b → ((sheet ≡ 1) × (b ≡ first)) ⊎ ((sheet ≡ 2) × (b ≡ second))
+  which : (b : List ℕ) → namedSheet first second sheet ≡ good b → Named first second sheet b
   unfolding namedSheet
   which b h = go (eqb sheet 1) (eqb sheet 2) refl refl h
     where
       go : (one two : Bool) → eqb sheet 1 ≡ one → eqb sheet 2 ≡ two
-          → cond one (good first) (cond two (good second) (refusal (plain 8 0))) ≡ good b
-          → ((sheet ≡ 1) × (b ≡ first)) ⊎ ((sheet ≡ 2) × (b ≡ second))
+          → cond one (good first) (cond two (good second) (refusal (plain 8 0))) ≡ good b → Named first second sheet b
       go true two e d w = inl (eqb-true sheet 1 e, sym (good-injective w))
       go false true e d w = inr (eqb-true sheet 2 d, sym (good-injective w))
       go false false e d w = absurd (never-good w)
@@ -200,5 +203,14 @@ module _ (first second : List ℕ) (sheet q : ℕ) where
         read = of-sheet .0;
         reads = place-good sheet (readSheet (of-named .0)) (of-sheet .1);
         within = ltb→lt _ _ (of-state .0);
-        is = good-injective (of-state .1);
+        is = sym (good-injective (of-state .1));
       }
+
+  -- it is a part of the sheet that is named
+  pub handed-of : (x : row.Part) (h : Handed first second sheet q x) → wholeOf x first second ≡ h .bytes
+  unfolding wholeOf
+  handed-of x h = ap (λ (p : row.Part). wholeOf p first second) (h .is) ∙ go (h .named)
+    where
+      go : Named first second sheet (h .bytes) → cond (eqb sheet 2) second first ≡ h .bytes
+      go (inl w) = rw (ne-eqb sheet 2 (λ e. omega (arith, w .0))) (sym (w .1))
+      go (inr w) = rw (eq-eqb sheet 2 (w .0)) (sym (w .1))
