@@ -1,8 +1,8 @@
 // Pairs connected with records and plan bytes lent, and what the call left of them, for the test program pair_cases. A case is the number
 // of lent records (16 bits), that of lent plan bytes (16 bits), the mode (0 the paper's, any other number settled), and the connecting
 // program's input: k, the first sheet behind its length, and the second. Its line: number, sheet, state, offset; situations, plan states,
-// rounds; plan length; digest of the lent plan; lent records that are zero, and lent records that are as they were. The module plans has the
-// like for edit_cases.
+// rounds; plan length; digest of the lent plan; lent records that are zero, and lent records that are as they were. The module plans has
+// the like for edit_cases.
 mod left;
 mod plans;
 

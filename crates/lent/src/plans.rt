@@ -1,8 +1,8 @@
 // Plans from any hand checked with records lent, and what each call left of them, for the test program edit_cases. A case is the number of
 // lent records (16 bits), the mode (0 the paper's, any other number settled), the old sheet behind its length, the new one behind its
-// length, and the plan. Its line, of the check: number, sheet, state, offset; lent records that are zero, and lent records that are as they were.
-// Then of the fault, with records lent anew: condition, code, ready set, plan state; fourteen counts; old state, new state; again records
-// that are zero, and that are as they were.
+// length, and the plan. Its line, of the check: number, sheet, state, offset; lent records that are zero, and lent records that are as they
+// were. Then of the fault, with records lent anew: condition, code, ready set, plan state; fourteen counts; old state, new state; again
+// records that are zero, and that are as they were.
 ghost use mathlib.Core.Path.{_≡_};
 ghost use Prim.Native.Nat.{_≤_};
 ghost use lib.ListN.{length, replicate};
