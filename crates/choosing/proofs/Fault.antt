@@ -2,20 +2,21 @@
 -- circle is found at the first row that leads back to itself.
 -- Assumes nothing.
 use mathlib.Core.Path.{_≡_, refl, sym, ap, subst, subst⁻¹, _∙_}
-use mathlib.Core.Bool.{Bool, true, false, cond, _||_}
+use mathlib.Core.Bool.{Bool, true, false, cond}
 use mathlib.Core.Logic.{_⊎_, inl, inr}
 use mathlib.Core.List.{List, [], _∷_}
 use mathlib.Core.Option.{Option, none, some, Option·map, Option·elim, Option·some-injective, Option·none-ne-some, bind}
-use Prim.Native.Nat.{ℕ, zero, suc, _+_, _-_, _*_, _≤_, _<_, compare·suc-suc}
+use Prim.Native.Nat.{ℕ, zero, suc, _+_, _-_, _*_, _≤_, _<_}
 use native.Mathlib.Omega.{arith}
 use lib.ListN.{length, getD}
 use lib.Dec.{T, eqb, ltb, leb}
-use borrow.Author.Tests.{ltb-true, lt-ltb}
+use borrow.Author.Tests.{ltb-true}
 use Rattle.model.specs.Lists.{any, place, upto}
 use Rattle.model.specs.Bytes.{word}
 use Rattle.model.specs.Contract.{has}
 use Rattle.model.specs.Sheet.{good, refusal, check, then, Refusal, plain, Trailer, trailer}
-use Rattle.model.proofs.Lists.{is-true, and-both, cond-some}
+use Rattle.model.proofs.Lists.{is-true, and-both, cond-some, any-place, place-passes}
+use Rattle.model.proofs.Actions.{length-upto}
 use Rattle.model.proofs.Sheet.{never-good}
 use Rattle.choosing.specs.Rows.{ChoosingRow, Choosing}
 use Rattle.choosing.specs.Read.{Part, choosingRowAt, rowsFrom, choosingTrailer, orRefused, readChoosing, framed}
@@ -127,39 +128,24 @@ module _ (b : List ℕ) where
 
 -- ---- 18
 
-module _ (p : ℕ → Bool) where
-  -- the first number that passes is one of the numbers exactly if some number passes
-  pub place-any : (first count : ℕ) → ltb (place p (upto first count)) count ≡ any p (upto first count)
-  unfolding place any upto
-  place-any first zero = refl
-  place-any first (suc count) = go (p first) (place-any (suc first) count)
-    where
-      go : (passes : Bool) → ltb (place p (upto (suc first) count)) count ≡ any p (upto (suc first) count)
-          → ltb (cond passes 0 (suc (place p (upto (suc first) count)))) (suc count) ≡ (passes || any p (upto (suc first) count))
-      go true e = lt-ltb 0 (suc count) (omega arith)
-      go false e = rw compare·suc-suc e
+-- the first number that passes is one of the numbers exactly if some number passes
+pub place-any : (p : ℕ → Bool) (first count : ℕ) → ltb (place p (upto first count)) count ≡ any p (upto first count)
+place-any p first count = ap (ltb (place p (upto first count))) (sym (length-upto count first)) ∙ sym (any-place p (upto first count))
 
-  -- and passes
-  place-passes : (first count : ℕ) → T (any p (upto first count)) → T (p (first + place p (upto first count)))
-  unfolding place any upto
-  place-passes first zero t = absurd t
-  place-passes first (suc count) t = go (p first) refl t (place-passes (suc first) count)
-    where
-      go : (passes : Bool) → p first ≡ passes → T (passes || any p (upto (suc first) count))
-          → (T (any p (upto (suc first) count)) → T (p (suc first + place p (upto (suc first) count))))
-          → T (p (first + cond passes 0 (suc (place p (upto (suc first) count)))))
-      go true e t later = let here : first + 0 ≡ first = omega arith in rw (here, e) tt
-      go false e t later =
-          let one-on : suc first + place p (upto (suc first) count) ≡ first + suc (place p (upto (suc first) count)) = omega arith in
-          subst (λ (n : ℕ). T (p n)) one-on (later t)
+number-at : (first count i : ℕ) → i < count → getD (upto first count) i 0 ≡ first + i
+unfolding upto
+number-at first zero i h = absurd (omega arith)
+number-at first (suc count) zero h = omega arith
+number-at first (suc count) (suc i) h = number-at (suc first) count i (omega arith) ∙ omega arith
 
 -- a circle is found at the first row that leads back to itself
 pub circle-row : (c : Choosing) → circle c ≡ true → (circleRow c < length (c .rows)) × Leads (leadsOf c) (circleRow c) (circleRow c)
 unfolding circle circleRow rowNumbers
 circle-row c e =
     let back : ℕ → Bool = λ r. has (getD (leadsOf c) r 0) r in
-    let here : ℕ = place back (upto 0 (length (c .rows))) in
-    let same : 0 + here ≡ here = omega arith in (
-      ltb-true here (length (c .rows)) (place-any back 0 (length (c .rows)) ∙ e),
-      subst (λ (r : ℕ). T (back r)) same (place-passes back 0 (length (c .rows)) (subst⁻¹ T e tt)),
-    )
+    let rows : ℕ = length (c .rows) in
+    let here : ℕ = place back (upto 0 rows) in
+    let within : here < rows = ltb-true here rows (place-any back 0 rows ∙ e) in
+    let first : back (getD (upto 0 rows) here 0) ≡ true = place-passes back (upto 0 rows) 0 (omega (arith, length-upto rows 0)) in
+    let is : here ≡ getD (upto 0 rows) here 0 = omega (arith, number-at 0 rows here within) in
+    (within, subst⁻¹ T (ap back is ∙ first) tt)
