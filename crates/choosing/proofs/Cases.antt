@@ -13,7 +13,7 @@ use Rattle.nodes.specs.Nodes.{isNone, nodesFound, numberAmong, stateOf, few, co
 use Rattle.nodes.specs.SheetBytes.{layoutRows, layoutIndex, layout, maskBytes, stateRowBytes, sheetBytes}
 use Rattle.choosing.specs.Rows.{rowIn, hiddenOf, maskOf, targetsOf}
 use Rattle.choosing.specs.Read.{targetsFrom, groupAt, groupsFrom, hidingAt, openAt, choosingRowAt, rowsFrom, choosingTrailer, orRefused, readChoosing, framed}
-use Rattle.choosing.specs.Sets.{uniteFrom, setOf, gather, put, sorted}
+use Rattle.nodes.specs.Sets.{uniteFrom, setOf, gather, put, sorted}
 use Rattle.choosing.specs.Convert.{throughRow, throughRows, rowNumbers, leadsOf, circle, rowsOfSet, closed, readySets, behindSet, nextRows, convertOf, convertSheet}
 use Rattle.choosing.specs.Cases.{ChoosingCase, choosingCases}
 

@@ -18,10 +18,11 @@ use Rattle.model.proofs.Actions.{action-below, mem-upto}
 use Rattle.model.proofs.Masks.{has-power, power-has}
 use Rattle.nodes.specs.Nodes.{Lawful}
 use Rattle.choosing.specs.Rows.{Choosing, rowIn, maskOf, targetsOf, Formed}
-use Rattle.choosing.specs.Transitions.{Does, Silently, rests, goes-on, Circle}
-use Rattle.choosing.specs.Sets.{setOf, gather}
+use Rattle.nodes.specs.Transitions.{Silently, rests, goes-on}
+use Rattle.choosing.specs.Transitions.{Hides, Does, Circle}
+use Rattle.nodes.specs.Sets.{setOf, gather}
 use Rattle.choosing.specs.Convert.{rowNumbers, leadsOf, rowsOfSet, closed, readySets, behindSet, nextRows}
-use Rattle.choosing.proofs.Sets.{unite-first, unite-intro, unite-elim, not-in-none, set-intro, set-elim, some-row-in, gather-intro, gather-elim, sorted-intro, sorted-elim, sorted-ascends}
+use Rattle.nodes.proofs.Sets.{unite-first, unite-intro, unite-elim, not-in-none, set-intro, set-elim, some-row-in, gather-intro, gather-elim, sorted-intro, sorted-elim, sorted-ascends}
 use Rattle.choosing.proofs.Leads.{leads-intro, leads-elim, hider-within}
 use Rattle.choosing.proofs.Rows.{does-has, has-does, mask-bits, mask-named, row-formed, silently-within, does-within, rests-open}
 
@@ -41,17 +42,17 @@ module _ (c : Choosing) where
 
   -- ---- internal moves from a set
 
-  pub closed-intro : (x r s : ℕ) → T (has x r) → Silently c r s → T (has (closed c x) s)
+  pub closed-intro : (x r s : ℕ) → T (has x r) → Silently (Hides c) r s → T (has (closed c x) s)
   unfolding closed
   closed-intro x r s t (rests e) =
       unite-first (λ q. getD (leadsOf c) q 0) x (rowsOfSet c x) s (subst (λ (q : ℕ). T (has x q)) e t)
   closed-intro x r s t (goes-on {s = u} h w) =
       unite-intro (λ q. getD (leadsOf c) q 0) x s (row-of-set x r (hider-within c r u h) t) (leads-intro c r u s h w)
 
-  pub closed-elim : (x s : ℕ) → T (has (closed c x) s) → (r : ℕ) × T (has x r) × Silently c r s
+  pub closed-elim : (x s : ℕ) → T (has (closed c x) s) → (r : ℕ) × T (has x r) × Silently (Hides c) r s
   unfolding closed
   closed-elim x s t =
-      ⊎-elim {C = (r : ℕ) × T (has x r) × Silently c r s}
+      ⊎-elim {C = (r : ℕ) × T (has x r) × Silently (Hides c) r s}
       (λ u. (s, u, rests refl))
       (λ w.
       let v = leads-elim c (w .0) s (w .2) in

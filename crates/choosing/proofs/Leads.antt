@@ -18,10 +18,11 @@ use Rattle.model.proofs.Bits.{has-or-left, has-or-right, has-or-cases}
 use Rattle.model.proofs.Masks.{has-none}
 use Rattle.model.proofs.Actions.{mem-upto}
 use Rattle.choosing.specs.Rows.{ChoosingRow, opens, Choosing, rowIn, hiddenOf}
-use Rattle.choosing.specs.Transitions.{Hides, Silently, rests, goes-on, Circle}
-use Rattle.choosing.specs.Sets.{uniteFrom, setOf}
+use Rattle.nodes.specs.Transitions.{Silently, rests, goes-on}
+use Rattle.choosing.specs.Transitions.{Hides, Circle}
+use Rattle.nodes.specs.Sets.{uniteFrom, setOf}
 use Rattle.choosing.specs.Convert.{throughRow, throughRows, rowNumbers, leadsOf, circle}
-use Rattle.choosing.proofs.Sets.{set-intro, set-elim}
+use Rattle.nodes.proofs.Sets.{set-intro, set-elim}
 
 -- row r leads to row s in a list of sets
 abbrev pub Leads : List ℕ → ℕ → ℕ → Type 0
@@ -152,19 +153,19 @@ module _ (c : Choosing) where
       go (x ∷ l) zero h m = omega arith
       go (x ∷ l) (suc r) h m = go l r (omega arith) m
 
-  way-silently : {limit r s : ℕ} → Way limit r s → (t : ℕ) × Hides c r t × Silently c t s
+  way-silently : {limit r s : ℕ} → Way limit r s → (t : ℕ) × Hides c r t × Silently (Hides c) t s
   way-silently {s = s} (one h) = (s, h, rests refl)
   way-silently (more {s = t} h l w) = let v = way-silently w in (t, h, goes-on (v .1) (v .2))
 
-  silently-way : (r s : ℕ) {t : ℕ} → Hides c r s → Silently c s t → Way (length (c .rows)) r t
+  silently-way : (r s : ℕ) {t : ℕ} → Hides c r s → Silently (Hides c) s t → Way (length (c .rows)) r t
   silently-way r s h (rests e) = one (subst (λ (x : ℕ). Hides c r x) e h)
   silently-way r s h (goes-on {s = u} k w) = more h (hider-within s u k) (silently-way s u k w)
 
   -- a row leads to those that one internal move and any number more reach
-  pub leads-elim : (r s : ℕ) → Leads (leadsOf c) r s → (t : ℕ) × Hides c r t × Silently c t s
+  pub leads-elim : (r s : ℕ) → Leads (leadsOf c) r s → (t : ℕ) × Hides c r t × Silently (Hides c) t s
   leads-elim r s t = way-silently (exact-leads r s .0 t)
 
-  pub leads-intro : (r s t : ℕ) → Hides c r s → Silently c s t → Leads (leadsOf c) r t
+  pub leads-intro : (r s t : ℕ) → Hides c r s → Silently (Hides c) s t → Leads (leadsOf c) r t
   leads-intro r s t h w = exact-leads r t .1 (silently-way r s h w)
 
   -- 18 is given exactly where there is a circle of internal moves

@@ -3,7 +3,6 @@ pub mod Parts
 pub mod Read
 pub mod Written
 pub mod Only
-pub mod Sets
 pub mod Leads
 pub mod Fault
 pub mod Rows

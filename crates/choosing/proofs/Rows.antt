@@ -15,7 +15,8 @@ use Rattle.model.proofs.Lists.{and-both, is-true, all-intro, keep-grows-strictl
 use Rattle.model.proofs.Actions.{action, upto-mem, mem-upto}
 use Rattle.model.proofs.Masks.{has-none, sameBit, low-bits-agree}
 use Rattle.choosing.specs.Rows.{ChoosingRow, hides, opens, Choosing, rowIn, hiddenOf, maskOf, targetsOf, OpenFormed, RowFormed, Formed}
-use Rattle.choosing.specs.Transitions.{Hides, Does, Silently, rests, goes-on, Stable, Initial, Circle}
+use Rattle.nodes.specs.Transitions.{Silently, rests, goes-on, Stable, Initial}
+use Rattle.choosing.specs.Transitions.{Hides, Does, Circle}
 use Rattle.choosing.specs.Convert.{rowNumbers, leadsOf}
 use Rattle.choosing.proofs.Leads.{leads-intro, leads-elim}
 
@@ -145,7 +146,7 @@ module _ (c : Choosing) (formed : Formed c) where
       go (x ∷ l) zero f = f x (List·Memᴰ·head refl)
       go (x ∷ l) (suc r) f = go l r (λ y m. f y (List·Memᴰ·tail m))
 
-  pub silently-within : {r s : ℕ} → r < count → Silently c r s → s < count
+  pub silently-within : {r s : ℕ} → r < count → Silently (Hides c) r s → s < count
   silently-within h (rests e) = subst (λ (x : ℕ). x < count) e h
   silently-within {r = r} h (goes-on {s = s} k w) = silently-within (hidden-below (c .n) count (rowIn c r) (row-formed r) s k) w
 
@@ -167,7 +168,7 @@ module _ (c : Choosing) (formed : Formed c) where
       (leads-intro c r s s h (rests refl))
 
   -- without a circle a row comes to rest at an open row
-  comes-to-rest : (Circle c → ⊥) → (k r : ℕ) → length (led r) < k → (s mask : ℕ) × Silently c r s × List·Memᴰ mask (maskOf (rowIn c s))
+  comes-to-rest : (Circle c → ⊥) → (k r : ℕ) → length (led r) < k → (s mask : ℕ) × Silently (Hides c) r s × List·Memᴰ mask (maskOf (rowIn c s))
   comes-to-rest calm zero r h = absurd (omega arith)
   comes-to-rest calm (suc k) r h =
       ⊎-elim (λ w. (r, w .0, rests refl, w .1))
@@ -176,11 +177,11 @@ module _ (c : Choosing) (formed : Formed c) where
       (v .0, v .1, goes-on (w .1) (v .2), v .3))
       (open-or-hides (c .n) count (rowIn c r) (row-formed r))
 
-  pub rests-open : (Circle c → ⊥) → (r : ℕ) → (s mask : ℕ) × Silently c r s × List·Memᴰ mask (maskOf (rowIn c s))
+  pub rests-open : (Circle c → ⊥) → (r : ℕ) → (s mask : ℕ) × Silently (Hides c) r s × List·Memᴰ mask (maskOf (rowIn c s))
   rests-open calm r = comes-to-rest calm (suc (length (led r))) r (omega arith)
 
   -- definition 2.5 of a row: it is stable and has this ready set exactly if it is open with this mask
-  pub mask-initial : (s R : ℕ) → List·Memᴰ R (maskOf (rowIn c s)) → Stable c s × Initial c s R
+  pub mask-initial : (s R : ℕ) → List·Memᴰ R (maskOf (rowIn c s)) → Stable (Hides c) s × Initial (Hides c) (Does c) s R
   mask-initial s R m = (
     (λ t. open-stable (rowIn c s) R t m),
     (
@@ -194,7 +195,7 @@ module _ (c : Choosing) (formed : Formed c) where
     ),
   )
 
-  pub initial-mask : (s R : ℕ) → Stable c s → Initial c s R → List·Memᴰ R (maskOf (rowIn c s))
+  pub initial-mask : (s R : ℕ) → Stable (Hides c) s → Initial (Hides c) (Does c) s R → List·Memᴰ R (maskOf (rowIn c s))
   initial-mask s R st i =
       ⊎-elim
       (λ w.

@@ -25,10 +25,11 @@ use Rattle.nodes.specs.Answer.{Written, written}
 use Rattle.nodes.proofs.Nodes.{contract-nodes}
 use Rattle.nodes.proofs.Refused.{contract-says}
 use Rattle.choosing.specs.Rows.{Choosing}
-use Rattle.choosing.specs.Transitions.{Circle}
+use Rattle.nodes.specs.Transitions.{SameBehind}
+use Rattle.choosing.specs.Transitions.{Hides, Does, Circle}
 use Rattle.choosing.specs.Read.{readChoosing}
 use Rattle.choosing.specs.Convert.{circle, readySets, nextRows, convertOf, convertSheet, convertInto}
-use Rattle.choosing.specs.Promises.{SameBehind, IsChoosing, Converted, IsCalm, NumberSays, Converting}
+use Rattle.choosing.specs.Promises.{IsChoosing, Converted, IsCalm, NumberSays, Converting}
 use Rattle.choosing.proofs.Leads.{circle-found, circle-real}
 use Rattle.choosing.proofs.Words.{states-are-sets, ready-are-sets, same-behind, made-sheet}
 use Rattle.choosing.proofs.Read.{read-formed, read-refused}
@@ -62,7 +63,7 @@ module _ (b : List ℕ) (small : (i : ℕ) → byte b i < 256) (c : Choosing) (i
           calm = calm-sheet;
           is-sheet = back ∙ ap (λ (d : Contract). good (record { contract = d; role = 0 })) (sym whole);
           names = ap (λ (d : Contract). d .n) (whole ∙ nodes .0);
-          same = λ word. subst⁻¹ (λ (d : Contract). SameBehind c d word) whole (same-behind c formed calm made is-made word);
+          same = λ word. subst⁻¹ (λ (d : Contract). SameBehind (Hides c) (Does c) 0 d word) whole (same-behind c formed calm made is-made word);
           numbered = whole ∙ nodes .0;
           few-states = says .0;
           few-ready = says .1;

@@ -18,10 +18,12 @@ use Rattle.nodes.specs.Words.{byAction, nodeAfter, readyAfter, nodesReady}
 use Rattle.nodes.specs.SheetBytes.{sheetBytes}
 use Rattle.nodes.proofs.Words.{made-ready}
 use Rattle.nodes.proofs.Made.{made-read-back}
+use Rattle.nodes.proofs.Transitions.{along-split, along-join}
 use Rattle.choosing.specs.Rows.{Choosing, Formed}
-use Rattle.choosing.specs.Transitions.{Silently, rests, Along, ends, does, Behind, at-once, acts, Circle}
+use Rattle.nodes.specs.Transitions.{rests, Along, Behind, at-once, acts, SameBehind}
+use Rattle.choosing.specs.Transitions.{Hides, Does, Circle}
 use Rattle.choosing.specs.Convert.{readySets, nextRows}
-use Rattle.choosing.specs.Promises.{SameBehind, StatesAreSets, ReadyAreSets}
+use Rattle.choosing.specs.Promises.{StatesAreSets, ReadyAreSets}
 use Rattle.choosing.proofs.Rows.{silently-within, mask-initial, initial-mask}
 use Rattle.choosing.proofs.Lawful.{Proper, start-proper, next-proper, closed-intro, closed-elim, ready-intro, ready-elim, next-elim, next-intro, sets-lawful}
 
@@ -30,18 +32,9 @@ unfolding byAction
 action-elim next x j y e = let w = cond-some (ltb j 14) (next x j) y e in (ltb→lt j 14 (w .0), w .1)
 
 module _ (c : Choosing) where
-  -- a word is done up to a row directly behind it, and on by internal moves
-  along-split : {word : List ℕ} {r u : ℕ} → Along c word r u → (s : ℕ) × Behind c word r s × Silently c s u
-  along-split {r = r} (ends w) = (r, at-once refl, w)
-  along-split (does j h w d g) = let k = along-split g in (k .0, acts j h w d (k .1), k .2)
-
-  along-join : {word : List ℕ} {r s u : ℕ} → Behind c word r s → Silently c s u → Along c word r u
-  along-join {u = u} (at-once e) w = ends (subst⁻¹ (λ (z : ℕ). Silently c z u) e w)
-  along-join (acts j h v d g) w = does j h v d (along-join g w)
-
   module _ (formed : Formed c) where
     -- the rows directly behind those of a set are found in the set after it
-    behind-node : {word : List ℕ} {r s : ℕ} (x : ℕ) → Proper c formed x → T (has x r) → Behind c word r s
+    behind-node : {word : List ℕ} {r s : ℕ} (x : ℕ) → Proper c formed x → T (has x r) → Behind (Hides c) (Does c) word r s
         → (y : ℕ) × (nodeAfter (nextRows c) x word ≡ some y) × T (has y s)
     unfolding nodeAfter byAction through bind
     behind-node x p m (at-once e) = (x, refl, subst (λ (z : ℕ). T (has x z)) e m)
@@ -52,7 +45,7 @@ module _ (c : Choosing) where
 
     -- what is found is directly behind some row of the set, and a proper set
     node-behind : (word : List ℕ) (x y s : ℕ) → nodeAfter (nextRows c) x word ≡ some y → T (has y s)
-        → (r : ℕ) × T (has x r) × Behind c word r s
+        → (r : ℕ) × T (has x r) × Behind (Hides c) (Does c) word r s
     unfolding nodeAfter through
     node-behind [] x y s e m = (s, subst⁻¹ (λ (z : ℕ). T (has z s)) (Option·some-injective x y e) m, at-once refl)
     node-behind (j ∷ word) x y s e m =
@@ -76,7 +69,7 @@ module _ (c : Choosing) where
     states-are-sets word s = (
       (λ w.
           let k = node-behind word 1 (w .0) s (w .1) (w .2) in
-          subst (λ (r : ℕ). Behind c word r s) (power-has 0 (k .0) (k .1)) (k .2)),
+          subst (λ (r : ℕ). Behind (Hides c) (Does c) word r s) (power-has 0 (k .0) (k .1)) (k .2)),
       behind-node 1 (start-proper c formed) (has-power 0),
     )
 
@@ -87,9 +80,9 @@ module _ (c : Choosing) where
           let k = ready-elim c x R m in
           let l = closed-elim c x (k .0) (k .1) in
           let i = mask-initial c formed (k .0) R (k .2) in
-          (k .0, along-join (states-are-sets word (l .0) .0 (x, at, l .1)) (l .2), i .0, i .1)),
+          (k .0, along-join (Hides c) (Does c) (states-are-sets word (l .0) .0 (x, at, l .1)) (l .2), i .0, i .1)),
       (λ w.
-          let g = along-split (w .1) in
+          let g = along-split (Hides c) (Does c) (w .1) in
           let k = states-are-sets word (g .0) .1 (g .1) in
           let here : T (has x (g .0)) = subst (λ (z : ℕ). T (has z (g .0))) (Option·some-injective (k .0) x (sym (k .1) ∙ at)) (k .2) in
           let p = node-proper word 1 x (start-proper c formed) at in
@@ -98,8 +91,8 @@ module _ (c : Choosing) where
     )
 
     -- the set behind a word that the rows can do
-    set-behind : (word : List ℕ) (s : ℕ) → Along c word 0 s → (x : ℕ) × (nodeAfter (nextRows c) 1 word ≡ some x)
-    set-behind word s g = let k = along-split g in let w = states-are-sets word (k .0) .1 (k .1) in (w .0, w .1)
+    set-behind : (word : List ℕ) (s : ℕ) → Along (Hides c) (Does c) word 0 s → (x : ℕ) × (nodeAfter (nextRows c) 1 word ≡ some x)
+    set-behind word s g = let k = along-split (Hides c) (Does c) g in let w = states-are-sets word (k .0) .1 (k .1) in (w .0, w .1)
 
     module _ (calm : Circle c → ⊥) (made : Contract) (is-made : contractOf eqb (nextRows c) (readySets c) (c .n) 1 ≡ good made) where
       -- the ready sets of the contract are those of the sets of rows
@@ -117,7 +110,7 @@ module _ (c : Choosing) where
       of-node word x e = is-node word ∙ ap (Option·map (readySets c)) e
 
       -- "for every sequence of actions both have the same ready sets"
-      pub same-behind : (word : List ℕ) → SameBehind c made word
+      pub same-behind : (word : List ℕ) → SameBehind (Hides c) (Does c) 0 made word
       same-behind word =
           record {
             same-ready = λ R. (
@@ -132,7 +125,7 @@ module _ (c : Choosing) where
               (λ w.
                   let v = node-of word (w .0) (w .1) in
                   let k = node-proper word 1 (v .0) (start-proper c formed) (v .1) .some-row in
-                  (k .0, along-join (states-are-sets word (k .0) .0 (v .0, v .1, k .1)) (rests refl))),
+                  (k .0, along-join (Hides c) (Does c) (states-are-sets word (k .0) .0 (v .0, v .1, k .1)) (rests refl))),
               (λ w. let v = set-behind word (w .0) (w .1) in (readySets c (v .0), of-node word (v .0) (v .1))),
             );
           }

@@ -2,7 +2,6 @@ pub mod Rows
 pub mod Transitions
 pub mod Bytes
 pub mod Read
-pub mod Sets
 pub mod Tables
 pub mod Convert
 pub mod Fault

@@ -14,23 +14,18 @@ use Rattle.nodes.specs.Nodes.{nodesFound, contractWith, TooMany, FewReached, To
 use Rattle.nodes.specs.Words.{readyAfter, nodeAfter}
 use Rattle.nodes.specs.Answer.{Written}
 use Rattle.choosing.specs.Rows.{Choosing, Formed}
-use Rattle.choosing.specs.Transitions.{Behind, ReadyBy, CanDo, Circle}
+use Rattle.nodes.specs.Transitions.{Behind, ReadyBy, SameBehind}
+use Rattle.choosing.specs.Transitions.{Hides, Does, Circle}
 use Rattle.choosing.specs.Bytes.{choosingBytes}
 use Rattle.choosing.specs.Convert.{readySets, nextRows, convertInto}
 
--- "for every sequence of actions both have the same ready sets": a mask is a ready set behind the word in the contract exactly if it is one
--- in the rows; and both can do the word, or neither
-pub record SameBehind (c : Choosing) (made : Contract) (word : List ℕ) : Type 0 where
-  pub same-ready : (R : ℕ) → ((l : List ℕ) × (readyAfter made word ≡ some l) × List·Memᴰ R l) ↔ ReadyBy c word R
-  pub same-can : ((l : List ℕ) × (readyAfter made word ≡ some l)) ↔ CanDo c word
-
 -- "states are the sets of rows directly behind the actions so far (at first row 0)", not closed under internal moves
 abbrev pub StatesAreSets : Choosing → Type 0
-StatesAreSets c = (word : List ℕ) (r : ℕ) → ((x : ℕ) × (nodeAfter (nextRows c) 1 word ≡ some x) × T (has x r)) ↔ Behind c word 0 r
+StatesAreSets c = (word : List ℕ) (r : ℕ) → ((x : ℕ) × (nodeAfter (nextRows c) 1 word ≡ some x) × T (has x r)) ↔ Behind (Hides c) (Does c) word 0 r
 
 -- definition 2.5: the ready sets of a state are those behind the word that leads to it
 abbrev pub ReadyAreSets : Choosing → Type 0
-ReadyAreSets c = (word : List ℕ) (x : ℕ) → nodeAfter (nextRows c) 1 word ≡ some x → (R : ℕ) → List·Memᴰ R (readySets c x) ↔ ReadyBy c word R
+ReadyAreSets c = (word : List ℕ) (x : ℕ) → nodeAfter (nextRows c) 1 word ≡ some x → (R : ℕ) → List·Memᴰ R (readySets c x) ↔ ReadyBy (Hides c) (Does c) 0 word R
 
 -- bytes are a choosing sheet of the form that the request describes
 pub record IsChoosing (b : List ℕ) (c : Choosing) : Type 0 where
@@ -51,7 +46,7 @@ pub record Converted (b sheet : List ℕ) : Type 0 where
   pub is-sheet : readSheet sheet ≡ good (record { contract = contractIn sheet; role = 0 })
   pub names : contractIn sheet .n ≡ calm .from .n
   -- "Show that for every sequence of actions both have the same ready sets."
-  pub same : (word : List ℕ) → SameBehind (calm .from) (contractIn sheet) word
+  pub same : (word : List ℕ) → SameBehind (Hides (calm .from)) (Does (calm .from)) 0 (contractIn sheet) word
   -- "numbered breadth first by ascending action": state i is the i-th set of rows found
   pub numbered : contractIn sheet
       ≡ contractWith eqb (nextRows (calm .from)) (readySets (calm .from)) (calm .from .n) (nodesFound eqb (nextRows (calm .from)) 1 .done)

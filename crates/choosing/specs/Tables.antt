@@ -5,7 +5,7 @@ use mathlib.Core.List.{List, map}
 use Prim.Native.Nat.{ℕ, _+_, _*_, _<_}
 use lib.ListN.{length, getD, take}
 use Rattle.choosing.specs.Rows.{ChoosingRow, hides, opens, Choosing, rowIn, hiddenOf, targetsOf}
-use Rattle.choosing.specs.Sets.{setOf}
+use Rattle.nodes.specs.Sets.{setOf}
 
 -- the mask of an open row; above all masks for a hiding one
 unfoldable pub maskNumber : ChoosingRow → ℕ

@@ -17,7 +17,7 @@ use Rattle.model.specs.Bytes.{word}
 use Rattle.model.specs.Sheet.{Trailer}
 use Rattle.choosing.specs.Rows.{ChoosingRow, opens, hiddenOf, targetsOf}
 use Rattle.choosing.specs.Read.{choosingRowAt, rowsFrom}
-use Rattle.choosing.specs.Sets.{setOf}
+use Rattle.nodes.specs.Sets.{setOf}
 use Rattle.choosing.specs.Tables.{maskNumber}
 use Rattle.choosing.specs.Fault.{faultFrom}
 use Rattle.choosing_rows.specs.Answers.{faultIn}

@@ -12,7 +12,7 @@ use borrow.Author.Tests.{lt-ltb, le-ltb, le-leb, lt-leb}
 use Rattle.model.specs.Bytes.{byte}
 use Rattle.model.specs.Sheet.{Trailer}
 use Rattle.choosing.specs.Read.{Part, targetsFrom, groupAt}
-use Rattle.choosing.specs.Sets.{uniteFrom, setOf}
+use Rattle.nodes.specs.Sets.{uniteFrom, setOf}
 use Rattle.choosing_rows.specs.Answers.{setIn, groupIn}
 use Rattle.choosing_rows.specs.declared.Group.the-variants as G
 

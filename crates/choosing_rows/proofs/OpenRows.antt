@@ -17,7 +17,7 @@ use Rattle.model.specs.Sheet.{Trailer}
 use Rattle.sheet.specs.Union.{onesBelow}
 use Rattle.choosing.specs.Rows.{opens, targetsOf}
 use Rattle.choosing.specs.Read.{Part, groupAt, groupsFrom}
-use Rattle.choosing.specs.Sets.{uniteFrom, setOf}
+use Rattle.nodes.specs.Sets.{uniteFrom, setOf}
 use Rattle.choosing_rows.specs.Answers.{ReadInto}
 use Rattle.choosing_rows.specs.Holding.{BlankFrom, actionAt, TargetsPut}
 use Rattle.choosing_rows.specs.declared.Row.the-variants as R

@@ -7,7 +7,7 @@ use mathlib.Core.Option.{Option, none, some, Option·map, Option·some-injective
 use Prim.Native.Nat.{ℕ}
 use native.Mathlib.Omega.{arith}
 use Rattle.choosing.specs.Read.{Part}
-use Rattle.choosing.specs.Sets.{setOf}
+use Rattle.nodes.specs.Sets.{setOf}
 use Rattle.choosing_rows.specs.Answers.{groupIn, rowBehindIn, ReadInto, faultIn}
 use Rattle.choosing_rows.specs.declared.Group.{Group}
 use Rattle.choosing_rows.specs.declared.Group.the-variants as G

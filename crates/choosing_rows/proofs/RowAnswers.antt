@@ -14,7 +14,7 @@ use Rattle.model.specs.Contract.{actions, has}
 use Rattle.model.specs.Sheet.{Trailer, strayBit}
 use Rattle.choosing.specs.Rows.{ChoosingRow, hides, opens, hiddenOf, targetsOf}
 use Rattle.choosing.specs.Read.{Part, groupAt, groupsFrom, hidingAt, openAt, choosingRowAt}
-use Rattle.choosing.specs.Sets.{uniteFrom, setOf}
+use Rattle.nodes.specs.Sets.{uniteFrom, setOf}
 use Rattle.choosing.specs.Tables.{maskNumber}
 use Rattle.choosing_rows.specs.Answers.{ReadInto}
 use Rattle.choosing_rows.specs.Holding.{BlankFrom, TargetsPut, RowPut}

@@ -5,7 +5,7 @@ use mathlib.Core.List.{List}
 use mathlib.Core.Option.{Option, none, some}
 use Prim.Native.Nat.{ℕ, _^_}
 use Rattle.choosing.specs.Read.{Part}
-use Rattle.choosing.specs.Sets.{uniteFrom, setOf}
+use Rattle.nodes.specs.Sets.{uniteFrom, setOf}
 use Rattle.choosing_rows.specs.declared.Group.{Group}
 use Rattle.choosing_rows.specs.declared.Group.the-variants as G
 use Rattle.choosing_rows.specs.declared.Row.{Row}

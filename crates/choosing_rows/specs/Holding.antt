@@ -10,7 +10,7 @@ use Rattle.model.specs.Contract.{has}
 use Rattle.model.specs.Sheet.{Trailer, good, refusal, plain}
 use Rattle.choosing.specs.Rows.{ChoosingRow, opens, Choosing, hiddenOf, targetsOf}
 use Rattle.choosing.specs.Read.{Part, groupAt, rowsFrom, readChoosing}
-use Rattle.choosing.specs.Sets.{setOf}
+use Rattle.nodes.specs.Sets.{setOf}
 use Rattle.choosing.specs.Tables.{maskNumber, Tabled}
 use Rattle.choosing.specs.Fault.{faultFrom}
 use Rattle.choosing_rows.specs.Answers.{faultIn}

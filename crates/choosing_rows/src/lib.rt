@@ -8,7 +8,7 @@ ghost use Rattle.model.specs.Contract.{actions, has};
 ghost use Rattle.sheet.specs.Answers.{trailerOf};
 ghost use Rattle.choosing.specs.Rows.{ChoosingRow, opens, hiddenOf};
 ghost use Rattle.choosing.specs.Read.{targetsFrom, groupAt, groupsFrom, hidingAt, openAt, choosingRowAt, choosingTrailer, framed};
-ghost use Rattle.choosing.specs.Sets.{setOf};
+ghost use Rattle.nodes.specs.Sets.{setOf};
 ghost use Rattle.choosing.specs.Tables.{maskNumber};
 ghost use Rattle.choosing.specs.Fault.{faultRow};
 ghost use Rattle.choosing_rows.specs.Answers.{setIn, groupIn, ReadInto, faultIn};

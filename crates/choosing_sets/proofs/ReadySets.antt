@@ -13,7 +13,7 @@ use Rattle.model.specs.Contract.{has}
 use Rattle.model.proofs.Lists.{getD-mem, keep-elim}
 use Rattle.model.proofs.Actions.{upto-mem}
 use Rattle.choosing.specs.Rows.{ChoosingRow, hides, opens, Choosing, rowIn, maskOf, RowFormed, Formed}
-use Rattle.choosing.specs.Sets.{gather, sorted}
+use Rattle.nodes.specs.Sets.{gather, sorted}
 use Rattle.choosing.specs.Tables.{maskNumber, Tabled}
 use Rattle.choosing.specs.Convert.{rowNumbers, rowsOfSet, closed, readySets}
 use Rattle.choosing_sets.specs.Ready.{numbersIn, readyIn}

@@ -1,4 +1,6 @@
 pub mod Nodes
+pub mod Sets
+pub mod Transitions
 pub mod Words
 pub mod Bytes
 pub mod Standing
