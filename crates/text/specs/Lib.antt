@@ -1,0 +1,7 @@
+pub mod Grammar
+pub mod Terms
+pub mod Transitions
+pub mod Parser
+pub mod Places
+pub mod Convert
+pub mod Promises
