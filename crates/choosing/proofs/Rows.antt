@@ -13,7 +13,8 @@ use Rattle.model.specs.Lists.{all, keep, upto}
 use Rattle.model.specs.Contract.{actions, has, name}
 use Rattle.model.proofs.Lists.{and-both, is-true, all-intro, keep-grows-strictly, getD-mem}
 use Rattle.model.proofs.Actions.{action, upto-mem, mem-upto}
-use Rattle.model.proofs.Masks.{has-none, sameBit, low-bits-agree}
+use Rattle.model.proofs.Masks.{has-none}
+use Rattle.nodes.proofs.Sets.{mask-same}
 use Rattle.choosing.specs.Rows.{ChoosingRow, hides, opens, Choosing, rowIn, hiddenOf, maskOf, targetsOf, OpenFormed, RowFormed, Formed}
 use Rattle.nodes.specs.Transitions.{Silently, rests, goes-on, Stable, Initial}
 use Rattle.choosing.specs.Transitions.{Hides, Does, Circle}
@@ -24,23 +25,6 @@ use Rattle.choosing.proofs.Leads.{leads-intro, leads-elim}
 some-first : {A : Type 0} (l : List A) → 1 ≤ length l → (x : A) × List·Memᴰ x l
 some-first [] h = absurd (omega arith)
 some-first (x ∷ l) h = (x, List·Memᴰ·head refl)
-
--- ---- masks with the same actions
-
-bits-agree : (t u : Bool) → (T t → T u) → (T u → T t) → T (sameBit t u)
-unfolding sameBit
-bits-agree true u f g = f tt
-bits-agree false true f g = g tt
-bits-agree false false f g = tt
-
-mask-same : (a b : ℕ) → a < 16384 → b < 16384 → ((j : ℕ) → j < 14 → T (has a j) → T (has b j))
-    → ((j : ℕ) → j < 14 → T (has b j) → T (has a j)) → a ≡ b
-mask-same a b ha hb f g =
-    let t : T (all (λ j. sameBit (has a j) (has b j)) (upto 0 14)) =
-    all-intro (λ j. sameBit (has a j) (has b j)) (upto 0 14)
-    (λ j m. let h : j < 14 = omega (arith, upto-mem 14 0 j m) in bits-agree (has a j) (has b j) (f j h) (g j h)) in
-    let e : a % 2 ^ 14 ≡ b % 2 ^ 14 = eqb→eq (a % 2 ^ 14) (b % 2 ^ 14) (subst⁻¹ T (low-bits-agree 14 a b) t) in
-    omega arith
 
 -- ---- what rows do
 

@@ -1,0 +1,4 @@
+pub mod Moves
+pub mod Substitution
+pub mod Senses
+pub mod Stands
