@@ -1,1 +1,3 @@
 pub mod Substitution
+pub mod Variables
+pub mod Widths
