@@ -1,3 +1,4 @@
 pub mod Substitution
-pub mod Variables
 pub mod Widths
+pub mod Variables
+pub mod Blanks
