@@ -1,15 +1,44 @@
--- The test for a variable at fault finds one exactly if there is one: a variable unbound, or under no prefix within its rec.
+-- The test for a variable at fault finds one exactly if there is one, a variable unbound or under no prefix within its rec; and where it
+-- finds one stands the letter of a variable.
 -- Assumes nothing.
-use mathlib.Core.Path.{_≡_, refl, sym, subst, _∙_}
+use mathlib.Core.Path.{_≡_, refl, ap, sym, subst, subst⁻¹, _∙_}
 use mathlib.Core.Bool.{Bool, true, false, cond, not}
 use mathlib.Core.Logic.{_⊎_, inl, inr, ⊎-elim}
-use mathlib.Core.Option.{Option, none, some, Option·none-ne-some}
-use mathlib.Core.List.{List, [], _∷_}
-use Prim.Native.Nat.{ℕ, suc, _+_}
+use mathlib.Core.Option.{Option, none, some, Option·none-ne-some, Option·some-injective}
+use mathlib.Core.List.{List, [], _∷_, _++_}
+use Prim.Native.Nat.{ℕ, suc, _+_, _≤_, _<_}
+use native.Mathlib.Omega.{arith}
+use lib.ListN.{length, getD, length-append, List·getD-append}
+use lib.Seq.{getD-append-add}
 use lib.Dec.{T, eqb, eqb→eq, eqb-refl, T-not, not-T}
 use Rattle.model.specs.Lists.{any, keep}
-use Rattle.model.proofs.Lists.{or-cases, or-left, or-right, dec-T, any-intro, any-elim, keep-intro, keep-elim}
-use Rattle.text.specs.Grammar.{Tree, nought, bare, dotted, summed, chosen, bound, variable, bracket}
+use Rattle.model.proofs.Lists.{or-cases, or-left, or-right, any-intro, any-elim, keep-intro, keep-elim}
+use Rattle.text.specs.Grammar.{
+  Tree,
+  nought,
+  bare,
+  dotted,
+  summed,
+  chosen,
+  bound,
+  variable,
+  bracket,
+  Level,
+  tight,
+  sums,
+  whole,
+  Derives,
+  d-nought,
+  d-variable,
+  d-bare,
+  d-dotted,
+  d-bound,
+  d-bracket,
+  d-one,
+  d-summed,
+  d-only,
+  d-chosen,
+}
 use Rattle.text.specs.Terms.{
   Term,
   end,
@@ -17,7 +46,6 @@ use Rattle.text.specs.Terms.{
   plus,
   inner,
   loop,
-  name,
   termOf,
   Free,
   f-name,
@@ -46,6 +74,7 @@ use Rattle.text.specs.Terms.{
 }
 use Rattle.text.specs.Convert.{actionWidth, widthOf, orElse, wrongAt}
 use Rattle.text.proofs.Substitution.{same-or-other}
+use Rattle.text.proofs.Widths.{width}
 
 -- ---- variables in lists
 
@@ -146,7 +175,7 @@ bad-inner r p t u (inl b) =
 bad-inner r p t u (inr b) =
     lifted r p u (inner t u) (λ v f. f-inner-right t u f) (λ v n. n-inner-right t u n) (λ y. y-inner-right t u y) b
 
--- a test of a variable that fails
+-- the test of a variable: it fails where the variable is found, and passes where none is
 failed-test : (b : Bool) (i k : ℕ) → cond b none (some i) ≡ some k → T b → ⊥
 failed-test true i k e t = Option·none-ne-some k e
 failed-test false i k e t = t
@@ -251,6 +280,75 @@ not-faulty (bound w t) r p i e (y-loop a b y) = not-faulty t (w ∷ r) (others w
 not-faulty (variable w) r p i e y = elim y [ ]
 not-faulty (bracket t) r p i e y = not-faulty t r p (suc i) e y
 
+-- in a whole tree
 pub none-wrong : (t : Tree) → wrongAt [] [] 0 t ≡ none → Wrong (termOf t) → ⊥
 none-wrong t e (inl w) = none-among (w .0) (free-among t [] [] 0 (λ v a. a) e (w .0) (w .1))
 none-wrong t e (inr y) = not-faulty t [] [] 0 e y
+
+-- ---- the letter of the variable that is found
+
+-- at place k stands the letter of a variable, where these bytes begin at place i
+abbrev Letter : List ℕ → ℕ → ℕ → Type 0
+Letter x i k = (v at : ℕ) × (v ≤ 2) × (k ≡ i + at) × (at < length x) × (getD x at 0 ≡ 88 + v)
+
+-- with bytes behind
+letter-front : (x y : List ℕ) (i k : ℕ) → Letter x i k → Letter (x ++ y) i k
+letter-front x y i k h =
+    (h .0, h .1, h .2, h .3, omega (arith, length-append x y, h .4), List·getD-append x y 0 (h .1) (h .4) ∙ h .5)
+
+-- with bytes before, so that they begin at place j
+letter-back : (x y : List ℕ) (i j k : ℕ) → j ≡ i + length x → Letter y j k → Letter (x ++ y) i k
+letter-back x y i j k e h = (
+  h .0,
+  length x + h .1,
+  h .2,
+  omega (arith, h .3),
+  omega (arith, length-append x y, h .4),
+  getD-append-add x y (h .1) 0 ∙ h .5,
+)
+
+-- in either of two parts, with bytes between them
+letter-either : (x z y : List ℕ) (i j k : ℕ) → j ≡ i + length x + length z → Letter x i k ⊎ Letter y j k
+    → Letter (x ++ (z ++ y)) i k
+letter-either x z y i j k e (inl h) = letter-front x (z ++ y) i k h
+letter-either x z y i j k e (inr h) =
+    letter-back x (z ++ y) i (i + length x) k refl (letter-back z y (i + length x) j k e h)
+
+-- a variable that is found stands where its part begins
+found-is : (b : Bool) (i k : ℕ) → cond b none (some i) ≡ some k → k ≡ i
+found-is true i k e = absurd (Option·none-ne-some k e)
+found-is false i k e = sym (Option·some-injective i k e)
+
+-- in a part of a text that begins at place i
+letter-within : {l : Level} {t : Tree} {x : List ℕ} → Derives l t x → (r p : List ℕ) (i k : ℕ) → wrongAt r p i t ≡ some k
+    → Letter x i k
+unfolding wrongAt widthOf
+letter-within d-nought r p i k e = absurd (Option·none-ne-some k e)
+letter-within (d-variable v h) r p i k e = (v, 0, h, omega (arith, found-is (any (eqb v) p) i k e), omega arith, refl)
+letter-within (d-bare j x s) r p i k e = absurd (Option·none-ne-some k e)
+letter-within (d-dotted j t x y s d) r p i k e =
+    letter-either x (46 ∷ []) y i (i + suc (actionWidth j)) k (omega (arith, width tight (bare j) x (d-bare j x s)))
+    (inr (letter-within d r r (i + suc (actionWidth j)) k e))
+letter-within (d-bound v t y h d) r p i k e =
+    letter-back (114 ∷ 101 ∷ 99 ∷ (88 + v) ∷ 46 ∷ []) y i (i + 5) k refl (letter-within d (v ∷ r) (others v p) (i + 5) k e)
+letter-within (d-bracket t x d) r p i k e =
+    letter-back (40 ∷ []) (x ++ (41 ∷ [])) i (suc i) k (omega arith)
+    (letter-front x (41 ∷ []) (suc i) k (letter-within d r p (suc i) k e))
+letter-within (d-one t x d) r p i k e = letter-within d r p i k e
+letter-within (d-summed t u x y d c) r p i k e =
+    letter-either x (43 ∷ []) y i (i + suc (widthOf t)) k (omega (arith, width sums t x d))
+    (⊎-elim (λ e. inl (letter-within d r p i k e)) (λ e. inr (letter-within c r p (i + suc (widthOf t)) k e))
+    (one-of (wrongAt r p i t) (wrongAt r p (i + suc (widthOf t)) u) k e))
+letter-within (d-only t x d) r p i k e = letter-within d r p i k e
+letter-within (d-chosen t u x y d c) r p i k e =
+    letter-either x (40 ∷ 43 ∷ 41 ∷ []) y i (i + (3 + widthOf t)) k (omega (arith, width whole t x d))
+    (⊎-elim (λ e. inl (letter-within d r p i k e)) (λ e. inr (letter-within c r p (i + (3 + widthOf t)) k e))
+    (one-of (wrongAt r p i t) (wrongAt r p (i + (3 + widthOf t)) u) k e))
+
+-- in a whole text
+pub letter : (l : Level) (t : Tree) (x : List ℕ) (i : ℕ) → Derives l t x → wrongAt [] [] 0 t ≡ some i
+    → (v : ℕ) × (v ≤ 2) × (i < length x) × (getD x i 0 ≡ 88 + v)
+letter l t x i d e =
+    let h = letter-within d [] [] 0 i e in
+    let q : i ≡ h .1 = omega (arith, h .3) in
+    (h .0, h .2, subst⁻¹ (λ (n : ℕ). n < length x) q (h .4), ap (λ (n : ℕ). getD x n 0) q ∙ h .5)

@@ -1,8 +1,8 @@
 -- A text has as many bytes as its tree says.
 -- Assumes nothing.
-use mathlib.Core.Path.{_≡_, refl, ap, _∙_}
-use mathlib.Core.List.{List, [], _∷_, _++_}
-use Prim.Native.Nat.{ℕ, suc, _+_, _≤_}
+use mathlib.Core.Path.{_≡_, refl}
+use mathlib.Core.List.{List, [], _∷_}
+use Prim.Native.Nat.{ℕ, _+_}
 use native.Mathlib.Omega.{arith}
 use lib.ListN.{length, length-append}
 use borrow.Author.Tests.{lt-ltb, le-ltb}
@@ -11,14 +11,6 @@ use Rattle.text.specs.Grammar.{
   takes,
   sends,
   Tree,
-  nought,
-  bare,
-  dotted,
-  summed,
-  chosen,
-  bound,
-  variable,
-  bracket,
   Level,
   Derives,
   d-nought,
@@ -34,7 +26,7 @@ use Rattle.text.specs.Grammar.{
 }
 use Rattle.text.specs.Convert.{actionWidth, widthOf}
 
-pub action-width : (j : ℕ) (x : List ℕ) → Spelled j x → length x ≡ actionWidth j
+action-width : (j : ℕ) (x : List ℕ) → Spelled j x → length x ≡ actionWidth j
 unfolding actionWidth
 action-width j x (takes i h) = rw (lt-ltb i 7 (omega arith))
 action-width j x (sends i h) = rw (le-ltb (7 + i) 7 (omega arith))
