@@ -13,12 +13,12 @@ use Rattle.nodes.specs.Nodes.{isNone, nodesFound, numberAmong, stateOf, few, co
 use Rattle.nodes.specs.SheetBytes.{layoutRows, layoutIndex, layout, maskBytes, stateRowBytes, sheetBytes}
 use Rattle.choosing.specs.Rows.{rowIn, hiddenOf, maskOf, targetsOf}
 use Rattle.choosing.specs.Read.{targetsFrom, groupAt, groupsFrom, hidingAt, openAt, choosingRowAt, rowsFrom, choosingTrailer, orRefused, readChoosing, framed}
-use Rattle.nodes.specs.Sets.{uniteFrom, setOf, gather, put, sorted}
+use Rattle.nodes.specs.Sets.{uniteFrom, setOf, ifAny, gather, put, sorted}
 use Rattle.choosing.specs.Convert.{throughRow, throughRows, rowNumbers, leadsOf, circle, rowsOfSet, closed, readySets, behindSet, nextRows, convertOf, convertSheet}
 use Rattle.choosing.specs.Cases.{ChoosingCase, choosingCases}
 
 computed : map (λ (c : ChoosingCase). convertSheet (c .from)) choosingCases ≡ map (λ (c : ChoosingCase). c .gives) choosingCases
-unfolding choosingCases convertSheet convertOf throughRow throughRows rowNumbers leadsOf circle rowsOfSet closed readySets behindSet nextRows rowIn hiddenOf maskOf targetsOf uniteFrom setOf gather put sorted targetsFrom groupAt groupsFrom hidingAt openAt choosingRowAt rowsFrom choosingTrailer orRefused readChoosing framed isNone nodesFound numberAmong stateOf few contractWith contractOf layoutRows layoutIndex layout maskBytes stateRowBytes sheetBytes check then plain trailer strayBit member add addAll search searchFrom byte word le16 actions name takes has offersIn any all keep place upto bind
+unfolding choosingCases ifAny convertSheet convertOf throughRow throughRows rowNumbers leadsOf circle rowsOfSet closed readySets behindSet nextRows rowIn hiddenOf maskOf targetsOf uniteFrom setOf gather put sorted targetsFrom groupAt groupsFrom hidingAt openAt choosingRowAt rowsFrom choosingTrailer orRefused readChoosing framed isNone nodesFound numberAmong stateOf few contractWith contractOf layoutRows layoutIndex layout maskBytes stateRowBytes sheetBytes check then plain trailer strayBit member add addAll search searchFrom byte word le16 actions name takes has offersIn any all keep place upto bind
 computed = refl
 
 pub choosing-cases : (c : ChoosingCase) → List·Memᴰ c choosingCases → convertSheet (c .from) ≡ c .gives

@@ -22,7 +22,7 @@ use Rattle.nodes.specs.Transitions.{Silently, rests, goes-on}
 use Rattle.choosing.specs.Transitions.{Hides, Does, Circle}
 use Rattle.nodes.specs.Sets.{setOf, gather}
 use Rattle.choosing.specs.Convert.{rowNumbers, leadsOf, rowsOfSet, closed, readySets, behindSet, nextRows}
-use Rattle.nodes.proofs.Sets.{unite-first, unite-intro, unite-elim, not-in-none, set-intro, set-elim, some-row-in, gather-intro, gather-elim, sorted-intro, sorted-elim, sorted-ascends}
+use Rattle.nodes.proofs.Sets.{any-is, any-when, unite-first, unite-intro, unite-elim, not-in-none, set-intro, set-elim, some-row-in, gather-intro, gather-elim, sorted-intro, sorted-elim, sorted-ascends}
 use Rattle.choosing.proofs.Leads.{leads-intro, leads-elim, hider-within}
 use Rattle.choosing.proofs.Rows.{does-has, has-does, mask-bits, mask-named, row-formed, silently-within, does-within, rests-open}
 
@@ -89,21 +89,11 @@ module _ (c : Choosing) where
   -- a next set is what is behind the action, and not empty
   next-is : (x j y : ℕ) → nextRows c x j ≡ some y → (behindSet c x j ≡ y) × (y ≡ 0 → ⊥)
   unfolding nextRows
-  next-is x j y e = go (eqb (behindSet c x j) 0) refl e
-    where
-      go : (b : Bool) → eqb (behindSet c x j) 0 ≡ b → cond b none (some (behindSet c x j)) ≡ some y → (behindSet c x j ≡ y) × (y ≡ 0 → ⊥)
-      go true p e = absurd (Option·none-ne-some y e)
-      go false p e =
-          let q = Option·some-injective (behindSet c x j) y e in
-          (q, λ z. eqb-false (behindSet c x j) 0 p (q ∙ z))
+  next-is x j y e = any-is (behindSet c x j) y e
 
   next-when : (x j t : ℕ) → T (has (behindSet c x j) t) → nextRows c x j ≡ some (behindSet c x j)
   unfolding nextRows
-  next-when x j t u = go (eqb (behindSet c x j) 0) refl
-    where
-      go : (b : Bool) → eqb (behindSet c x j) 0 ≡ b → cond b none (some (behindSet c x j)) ≡ some (behindSet c x j)
-      go true p = absurd (not-in-none t (subst (λ (y : ℕ). T (has y t)) (eqb-true (behindSet c x j) 0 p) u))
-      go false p = refl
+  next-when x j t u = any-when (behindSet c x j) t u
 
   pub next-elim : (x j y t : ℕ) → nextRows c x j ≡ some y → T (has y t) → (s : ℕ) × T (has (closed c x) s) × Does c s j t
   next-elim x j y t e u = behind-elim x j t (subst⁻¹ (λ (z : ℕ). T (has z t)) (next-is x j y e .0) u)

@@ -8,7 +8,6 @@ use mathlib.Core.List.{List, [], _∷_, _++_}
 use Prim.Native.Nat.{ℕ, zero, suc, _+_, _^_, _<_, _≤_}
 use native.Mathlib.Omega.{arith}
 use lib.ListN.{length, getD, length-append}
-
 use lib.Dec.{eqb}
 use lib.Bits.{bitOr}
 use borrow.Author.Tests.{eqb-true, eqb-false, eq-eqb, ne-eqb}
@@ -109,11 +108,15 @@ sense-agree (before j t) n one two f p h =
     ap (λ (q : ℕ). record { place = suc (n + sizeOf t); ready = 2 ^ j ∷ []; steps = record { action = j; to = q } ∷ [] })
     (place-agree t n one two (λ y. f (y-before j t y)) (λ v k. p v))
 sense-agree (plus t u) n one two f p h =
-    rw (sense-agree t n one two (λ y. f (y-plus-left t u y)) p (λ v k. h v (n-plus-left t u k)),
-    sense-agree u (n + sizeOf t) one two (λ y. f (y-plus-right t u y)) p (λ v k. h v (n-plus-right t u k)))
+    rw (
+      sense-agree t n one two (λ y. f (y-plus-left t u y)) p (λ v k. h v (n-plus-left t u k)),
+      sense-agree u (n + sizeOf t) one two (λ y. f (y-plus-right t u y)) p (λ v k. h v (n-plus-right t u k)),
+    )
 sense-agree (inner t u) n one two f p h =
-    rw (sense-agree t n one two (λ y. f (y-inner-left t u y)) p (λ v k. h v (n-inner-left t u k)),
-    sense-agree u (n + sizeOf t) one two (λ y. f (y-inner-right t u y)) p (λ v k. h v (n-inner-right t u k)))
+    rw (
+      sense-agree t n one two (λ y. f (y-inner-left t u y)) p (λ v k. h v (n-inner-left t u k)),
+      sense-agree u (n + sizeOf t) one two (λ y. f (y-inner-right t u y)) p (λ v k. h v (n-inner-right t u k)),
+    )
 sense-agree (loop v t) n one two f p h =
     let g : placeIn one n t ≡ placeIn two n t = place-agree t n one two (λ y. f (y-loop v t y)) (λ x k. p x) in
     sense-agree t n (within one v (placed (placeIn one n t))) (within two v (placed (placeIn two n t))) (λ y. f (y-loop v t y))
@@ -153,11 +156,17 @@ senses-length (before j t) n scope =
     length-append (sensesIn scope n t) (senseIn scope n (before j t) ∷ []) ∙ ap (λ (k : ℕ). k + 1) (senses-length t n scope) ∙ omega arith
 senses-length (plus t u) n scope =
     length-append (sensesIn scope n t) (sensesIn scope (n + sizeOf t) u ++ (senseIn scope n (plus t u) ∷ []))
-    ∙ rw (senses-length t n scope, length-append (sensesIn scope (n + sizeOf t) u) (senseIn scope n (plus t u) ∷ []),
-    senses-length u (n + sizeOf t) scope) (omega arith)
+    ∙ rw (
+      senses-length t n scope,
+      length-append (sensesIn scope (n + sizeOf t) u) (senseIn scope n (plus t u) ∷ []),
+      senses-length u (n + sizeOf t) scope,
+    ) (omega arith)
 senses-length (inner t u) n scope =
     length-append (sensesIn scope n t) (sensesIn scope (n + sizeOf t) u ++ (senseIn scope n (inner t u) ∷ []))
-    ∙ rw (senses-length t n scope, length-append (sensesIn scope (n + sizeOf t) u) (senseIn scope n (inner t u) ∷ []),
-    senses-length u (n + sizeOf t) scope) (omega arith)
+    ∙ rw (
+      senses-length t n scope,
+      length-append (sensesIn scope (n + sizeOf t) u) (senseIn scope n (inner t u) ∷ []),
+      senses-length u (n + sizeOf t) scope,
+    ) (omega arith)
 senses-length (loop v t) n scope = senses-length t n (within scope v (senseIn scope n (loop v t)))
 senses-length (name v) n scope = refl

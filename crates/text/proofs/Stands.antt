@@ -75,6 +75,7 @@ use Rattle.text.proofs.Substitution.{
   sub-closes,
   replaced-sub,
 }
+use Rattle.text.proofs.Variables.{naked-free}
 use Rattle.text.proofs.Moves.{
   Ready,
   Acts,
@@ -206,63 +207,70 @@ module _ (root : Term) (sound : Faulty root → ⊥) (below : ActionsBelow root)
       )
   part-lies (in-loop v t w) = part-lies w
 
+  -- what the list has at a place
+  abbrev Listed : ℕ → Sense → Type 0
+  Listed p s = (senseAt (placesOf root) p ≡ s) × (p < length (placesOf root))
+
   -- the last of the places of a part stands behind the others
   last-at : (scope : Scope) (n : ℕ) (t : Term) (front : List Sense) (x : Sense) → sensesIn scope n t ≡ front ++ (x ∷ []) → Lies scope n t
-      → senseAt (placesOf root) (suc (n + length front)) ≡ x
+      → (i : ℕ) → length front ≡ i → Listed (suc (n + i)) x
   unfolding Lies senseAt
-  last-at scope n t front x e k =
+  last-at scope n t front x e k i long =
       let whole : placesOf root ≡ (k .0 ++ front) ++ (x ∷ k .1) =
       k .2 ∙ ap (λ (l : List Sense). k .0 ++ (l ++ k .1)) e ∙ ap (λ (l : List Sense). k .0 ++ l) (append-assoc front (x ∷ []) (k .1))
       ∙ sym (append-assoc (k .0) front (x ∷ k .1)) in
-      let far : length (k .0 ++ front) ≡ suc (n + length front) =
-      length-append (k .0) front ∙ ap (λ (i : ℕ). i + length front) (k .3) ∙ omega arith in
-      ap (λ (l : List Sense). getD l (suc (n + length front)) theEnd) whole
-      ∙ ap (λ (i : ℕ). getD ((k .0 ++ front) ++ (x ∷ k .1)) i theEnd) (sym far)
-      ∙ getD-append-seam (k .0 ++ front) x (k .1) theEnd
+      let far : length (k .0 ++ front) ≡ suc (n + i) =
+      length-append (k .0) front ∙ rw (k .3, long) (omega arith) in
+      let all : length (placesOf root) ≡ length (k .0 ++ front) + suc (length (k .1)) =
+      ap length whole ∙ length-append (k .0 ++ front) (x ∷ k .1) in (
+        ap (λ (l : List Sense). getD l (suc (n + i)) theEnd) whole
+            ∙ ap (λ (q : ℕ). getD ((k .0 ++ front) ++ (x ∷ k .1)) q theEnd) (sym far)
+            ∙ getD-append-seam (k .0 ++ front) x (k .1) theEnd,
+        omega arith,
+      )
 
   -- ---- what the list has for a part's place is what the part means
 
   -- for variables under no prefix
   abbrev Entries : Scope → Term → Type 0
-  Entries scope t = (v : ℕ) → Naked v t → senseAt (placesOf root) (scope v .place) ≡ scope v
+  Entries scope t = (v : ℕ) → Naked v t → Listed (scope v .place) (scope v)
 
   -- a rec's own variable is not among them, as it stands under a prefix
   other-naked : (v : ℕ) (t : Term) → (Faulty (loop v t) → ⊥) → (x : ℕ) → Naked x t → v ≡ x → ⊥
   other-naked v t f x k e = f (y-here v t (subst⁻¹ (λ (z : ℕ). Naked z t) e k))
 
+  end-listed : Listed 0 theEnd
+  unfolding senseAt placesOf
+  end-listed = (refl, omega arith)
+
   entry : (t : Term) {scope : Scope} {σ : Values} {n : ℕ} → Stands root scope σ n t → Entries scope t
-      → senseAt (placesOf root) (placeIn scope n t) ≡ senseIn scope n t
-  unfolding placeIn sensesIn senseIn senseAt theEnd placesOf
-  entry end w e = refl
+      → Listed (placeIn scope n t) (senseIn scope n t)
+  unfolding placeIn sensesIn senseIn
+  entry end w e = end-listed
   entry (before j t) {scope} {σ} {n} w e =
-      subst (λ (i : ℕ). senseAt (placesOf root) (suc (n + i)) ≡ senseIn scope n (before j t)) (senses-length t n scope)
-      (last-at scope n (before j t) (sensesIn scope n t) (senseIn scope n (before j t)) refl (part-lies w))
+      last-at scope n (before j t) (sensesIn scope n t) (senseIn scope n (before j t)) refl (part-lies w) (sizeOf t) (senses-length t n scope)
   entry (plus t u) {scope} {σ} {n} w e =
-      subst (λ (i : ℕ). senseAt (placesOf root) (suc (n + i)) ≡ senseIn scope n (plus t u)) (both-lengths t u n scope)
-      (last-at scope n (plus t u) (sensesIn scope n t ++ sensesIn scope (n + sizeOf t) u) (senseIn scope n (plus t u))
-      (sym (append-assoc (sensesIn scope n t) (sensesIn scope (n + sizeOf t) u) (senseIn scope n (plus t u) ∷ []))) (part-lies w))
+      last-at scope n (plus t u) (sensesIn scope n t ++ sensesIn scope (n + sizeOf t) u) (senseIn scope n (plus t u))
+      (sym (append-assoc (sensesIn scope n t) (sensesIn scope (n + sizeOf t) u) (senseIn scope n (plus t u) ∷ []))) (part-lies w)
+      (sizeOf t + sizeOf u) (both-lengths t u n scope)
   entry (inner t u) {scope} {σ} {n} w e =
-      subst (λ (i : ℕ). senseAt (placesOf root) (suc (n + i)) ≡ senseIn scope n (inner t u)) (both-lengths t u n scope)
-      (last-at scope n (inner t u) (sensesIn scope n t ++ sensesIn scope (n + sizeOf t) u) (senseIn scope n (inner t u))
-      (sym (append-assoc (sensesIn scope n t) (sensesIn scope (n + sizeOf t) u) (senseIn scope n (inner t u) ∷ []))) (part-lies w))
+      last-at scope n (inner t u) (sensesIn scope n t ++ sensesIn scope (n + sizeOf t) u) (senseIn scope n (inner t u))
+      (sym (append-assoc (sensesIn scope n t) (sensesIn scope (n + sizeOf t) u) (senseIn scope n (inner t u) ∷ []))) (part-lies w)
+      (sizeOf t + sizeOf u) (both-lengths t u n scope)
   entry (loop v t) {scope} {σ} {n} w e =
       let f = part-sound w in
       let own = senseIn scope n (loop v t) in
-      let inside = within scope v own in
-      ap (senseAt (placesOf root)) (loop-place v t n scope own f)
-      ∙ entry t (in-loop v t w)
+      let k = entry t (in-loop v t w)
       (λ x k.
       let other = within-other scope v own x (other-naked v t f x k) in
-      subst⁻¹ (λ (s : Sense). senseAt (placesOf root) (s .place) ≡ s) other
-      (e x (n-loop v t (λ d. other-naked v t f x k (sym d)) k)))
-      ∙ sym (loop-within v t n scope f)
+      subst⁻¹ (λ (s : Sense). Listed (s .place) s) other (e x (n-loop v t (λ d. other-naked v t f x k (sym d)) k))) in
+      subst⁻¹ (λ (q : ℕ). Listed q own) (loop-place v t n scope own f) (subst⁻¹ (Listed (placeIn (within scope v own) n t)) (loop-within v t n scope f) k)
   entry (name v) w e = e v n-name
 
   -- the same for all variables, whatever they stand under
-  pub all-entries : {scope : Scope} {σ : Values} {n : ℕ} {t : Term} → Stands root scope σ n t
-      → (v : ℕ) → senseAt (placesOf root) (scope v .place) ≡ scope v
-  unfolding noScope senseAt theEnd placesOf
-  all-entries at-root v = refl
+  all-entries : {scope : Scope} {σ : Values} {n : ℕ} {t : Term} → Stands root scope σ n t → (v : ℕ) → Listed (scope v .place) (scope v)
+  unfolding noScope theEnd
+  all-entries at-root v = end-listed
   all-entries (in-before j t w) v = all-entries w v
   all-entries (in-plus-left t u w) v = all-entries w v
   all-entries (in-plus-right t u w) v = all-entries w v
@@ -270,14 +278,12 @@ module _ (root : Term) (sound : Faulty root → ⊥) (below : ActionsBelow root)
   all-entries (in-inner-right t u w) v = all-entries w v
   all-entries (in-loop {scope = scope} {n = n} u t w) v = go (same-or-other u v) (entry (loop u t) w (λ x k. all-entries w x)) (all-entries w v)
     where
-      go : (u ≡ v) ⊎ (u ≡ v → ⊥) → senseAt (placesOf root) (placeIn scope n (loop u t)) ≡ senseIn scope n (loop u t)
-          → senseAt (placesOf root) (scope v .place) ≡ scope v
-          → senseAt (placesOf root) (within scope u (senseIn scope n (loop u t)) v .place) ≡ within scope u (senseIn scope n (loop u t)) v
+      go : (u ≡ v) ⊎ (u ≡ v → ⊥) → Listed (placeIn scope n (loop u t)) (senseIn scope n (loop u t)) → Listed (scope v .place) (scope v)
+          → Listed (within scope u (senseIn scope n (loop u t)) v .place) (within scope u (senseIn scope n (loop u t)) v)
       go (inl d) a b =
-          subst⁻¹ (λ (s : Sense). senseAt (placesOf root) (s .place) ≡ s) (within-same scope u (senseIn scope n (loop u t)) v d)
-          (ap (senseAt (placesOf root)) (sense-place (loop u t) n scope (part-sound w)) ∙ a)
-      go (inr d) a b =
-          subst⁻¹ (λ (s : Sense). senseAt (placesOf root) (s .place) ≡ s) (within-other scope u (senseIn scope n (loop u t)) v d) b
+          subst⁻¹ (λ (s : Sense). Listed (s .place) s) (within-same scope u (senseIn scope n (loop u t)) v d)
+          (subst⁻¹ (λ (q : ℕ). Listed q (senseIn scope n (loop u t))) (sense-place (loop u t) n scope (part-sound w)) a)
+      go (inr d) a b = subst⁻¹ (λ (s : Sense). Listed (s .place) s) (within-other scope u (senseIn scope n (loop u t)) v d) b
 
   -- ---- closed terms
 
@@ -426,3 +432,48 @@ module _ (root : Term) (sound : Faulty root → ⊥) (below : ActionsBelow root)
       (subst⁻¹ (Means root own) (replaced-sub t σ v (loop v body) (values-closed c w))
       (subst⁻¹ (λ (s : Sense). Means root s (sub (with-value σ v (loop v body)) t)) (loop-within v t n scope f) k))
   part-means (name v) c w h = h v n-name
+
+  -- what every variable that is free in a part means
+  free-means : {scope : Scope} {σ : Values} {n : ℕ} {t : Term} → closed root → Stands root scope σ n t
+      → (v : ℕ) → Free v t → Means root (scope v) (valueOf σ v)
+  free-means c at-root v f = absurd (c v f)
+  free-means c (in-before j t w) v f = free-means c w v (f-before j t f)
+  free-means c (in-plus-left t u w) v f = free-means c w v (f-plus-left t u f)
+  free-means c (in-plus-right t u w) v f = free-means c w v (f-plus-right t u f)
+  free-means c (in-inner-left t u w) v f = free-means c w v (f-inner-left t u f)
+  free-means c (in-inner-right t u w) v f = free-means c w v (f-inner-right t u f)
+  free-means c (in-loop {scope = scope} {σ = σ} {n = n} u t w) v f =
+      go (same-or-other u v) (part-means (loop u t) c w (λ x k. free-means c w x (naked-free k))) (λ d. free-means c w v (f-loop u t d f))
+    where
+      go : (u ≡ v) ⊎ (u ≡ v → ⊥) → Means root (senseIn scope n (loop u t)) (sub σ (loop u t))
+          → ((v ≡ u → ⊥) → Means root (scope v) (valueOf σ v))
+          → Means root (within scope u (senseIn scope n (loop u t)) v) (valueOf (with-value σ u (sub σ (loop u t))) v)
+      go (inl d) a b =
+          subst⁻¹ (λ (s : Sense). Means root s (valueOf (with-value σ u (sub σ (loop u t))) v))
+          (within-same scope u (senseIn scope n (loop u t)) v d)
+          (subst⁻¹ (λ (o : Option Term). Means root (senseIn scope n (loop u t)) (Option·getD o (name v)))
+          (with-same σ u (sub σ (loop u t)) v d) a)
+      go (inr d) a b =
+          subst⁻¹ (λ (s : Sense). Means root s (valueOf (with-value σ u (sub σ (loop u t))) v))
+          (within-other scope u (senseIn scope n (loop u t)) v d)
+          (subst⁻¹ (λ (o : Option Term). Means root (scope v) (Option·getD o (name v))) (with-other σ u (sub σ (loop u t)) v d)
+          (b (λ e. d (sym e))))
+
+  -- What the list has for a place is what the transitions of every closed term that stands there give.
+  pub place-means : closed root → (p : ℕ) (s : Term) → StandsFor root p s → Means root (senseAt (placesOf root) p) s
+  place-means c p s (scope, σ, n, t, w, at, is) =
+      let m = part-means t c w (λ v k. free-means c w v (naked-free k)) in
+      let e = entry t w (λ v k. all-entries w v) .0 in
+      subst⁻¹ (λ (u : Term). Means root (senseAt (placesOf root) p) u) is
+      (subst⁻¹ (λ (q : ℕ). Means root (senseAt (placesOf root) q) (sub σ t)) at
+      (subst⁻¹ (λ (r : Sense). Means root r (sub σ t)) e m))
+
+  -- a place at which a closed term stands is one of the list
+  pub place-inside : (p : ℕ) (s : Term) → StandsFor root p s → p < length (placesOf root)
+  place-inside p s (scope, σ, n, t, w, at, is) =
+      subst⁻¹ (λ (q : ℕ). q < length (placesOf root)) at (entry t w (λ v k. all-entries w v) .1)
+
+  -- "at first the whole text"
+  pub root-stands : StandsFor root (firstPlace root) root
+  unfolding firstPlace
+  root-stands = (noScope, (λ v. none), 0, root, at-root, refl, sym (sub-none root))

@@ -98,7 +98,8 @@ pub replaced-loop-same : (v : ℕ) (w : Term) (x : ℕ) (t : Term) → v ≡ x �
 unfolding replaced
 replaced-loop-same v w x t e = rw (eq-eqb v x e)
 
-pub replaced-loop-other : (v : ℕ) (w : Term) (x : ℕ) (t : Term) → (v ≡ x → ⊥) → replaced v w (loop x t) ≡ loop x (replaced v w t)
+pub replaced-loop-other : (v : ℕ) (w : Term) (x : ℕ) (t : Term) → (v ≡ x → ⊥)
+    → replaced v w (loop x t) ≡ loop x (replaced v w t)
 unfolding replaced
 replaced-loop-other v w x t n = rw (ne-eqb v x n)
 
@@ -151,9 +152,11 @@ sub-absent (loop x t) σ h =
     ap (loop x) (sub-absent t (without σ x) (λ v f. agree-within σ (λ w. none) x t h v f ∙ without-nothing x v))
 sub-absent (name x) σ h = ap (λ (o : Option Term). Option·getD o (name x)) (h x f-name)
 
+-- no variable stands for anything
 pub sub-none : (t : Term) → sub (λ v. none) t ≡ t
 sub-none t = sub-absent t (λ v. none) (λ v f. refl)
 
+-- no variable is free
 pub sub-closed : (t : Term) (σ : Values) → closed t → sub σ t ≡ t
 sub-closed t σ c = sub-absent t σ (λ v f. absurd (c v f))
 
@@ -171,6 +174,7 @@ replaced-absent (loop x t) v w h =
     (λ n. replaced-loop-other v w x t n ∙ ap (loop x) (replaced-absent t v w (λ f. h (f-loop x t n f)))) (same-or-other v x)
 replaced-absent (name x) v w h = replaced-other v w x (λ e. h (subst (λ (y : ℕ). Free v (name y)) e f-name))
 
+-- none is
 pub replaced-closed : (t : Term) (v : ℕ) (w : Term) → closed t → replaced v w t ≡ t
 replaced-closed t v w c = replaced-absent t v w (c v)
 
@@ -208,7 +212,8 @@ with-without σ v w x n u = go (eqb v u) (eqb x u) refl refl
     go false true d e = refl
     go false false d e = refl
 
-closed-without : (σ : Values) (x : ℕ) → ClosedValues σ → ClosedValues (without σ x)
+-- with a variable taken out, what the others stand for is closed still
+pub closed-without : (σ : Values) (x : ℕ) → ClosedValues σ → ClosedValues (without σ x)
 closed-without σ x c v t e = go (same-or-other x v)
   where
     go : (x ≡ v) ⊎ (x ≡ v → ⊥) → closed t
@@ -255,6 +260,10 @@ replaced-is-sub t v w =
 
 -- ---- what is free afterwards
 
+-- what a variable becomes, by what it stands for
+free-became : (u v : ℕ) {o p : Option Term} → o ≡ p → Free u (Option·getD o (name v)) → Free u (Option·getD p (name v))
+free-became u v e f = subst (λ (o : Option Term). Free u (Option·getD o (name v))) e f
+
 -- a variable that is free afterwards is free in what some free variable became
 pub free-sub : (t : Term) (σ : Values) (u : ℕ) → Free u (sub σ t) → (v : ℕ) × Free v t × Free u (valueOf σ v)
 unfolding sub
@@ -268,12 +277,8 @@ free-sub (loop x t) σ u (f-loop y s n f) = go (free-sub t (without σ x) u f)
     go : (v : ℕ) × Free v t × Free u (valueOf (without σ x) v) → (v : ℕ) × Free v (loop x t) × Free u (valueOf σ v)
     go r =
         ⊎-elim
-        (λ e. absurd (n (free-name (subst (λ (o : Option Term). Free u (Option·getD o (name (r .0)))) (without-same σ x (r .0) e) (r .2)) ∙ sym e)))
-        (λ m. (
-          r .0,
-          f-loop x t (λ e. m (sym e)) (r .1),
-          subst (λ (o : Option Term). Free u (Option·getD o (name (r .0)))) (without-other σ x (r .0) m) (r .2),
-        ))
+        (λ e. absurd (n (free-name (free-became u (r .0) (without-same σ x (r .0) e) (r .2)) ∙ sym e)))
+        (λ m. (r .0, f-loop x t (λ e. m (sym e)) (r .1), free-became u (r .0) (without-other σ x (r .0) m) (r .2)))
         (same-or-other x (r .0))
 free-sub (name x) σ u f = (x, f-name, f)
 
@@ -282,7 +287,7 @@ pub sub-closes : (t : Term) (σ : Values) → ((v : ℕ) → Free v t → (s : T
 sub-closes t σ h u f =
     let r = free-sub t σ u f in
     let k = h (r .0) (r .1) in
-    k .2 u (subst (λ (o : Option Term). Free u (Option·getD o (name (r .0)))) (k .1) (r .2))
+    k .2 u (free-became u (r .0) (k .1) (r .2))
 
 -- a rec with no free variable becomes a term with none: its body, in which its variable stands for the whole
 pub unrolled-closed : (v : ℕ) (t : Term) → closed (loop v t) → closed (replaced v (loop v t) t)

@@ -52,7 +52,7 @@ orElse (some i) other = some i
 orElse none other = other
 
 -- The first variable at fault in a tree whose text begins at i: one that is not among those with a prefix between their nearest rec and
--- here. `bound` are the variables with a rec so far, all of which have a prefix behind the next one.
+-- here. `recs` are the variables with a rec so far, all of which have a prefix behind the next one.
 unfoldable pub wrongAt : (recs prefixed : List ℕ) (i : ℕ) → Tree → Option ℕ
 wrongAt recs prefixed i nought = none
 wrongAt recs prefixed i (bare j) = none

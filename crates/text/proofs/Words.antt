@@ -1,0 +1,2 @@
+-- words
+-- Assumes nothing.
