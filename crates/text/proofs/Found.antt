@@ -1,12 +1,12 @@
 -- What the parser reads is a text within the depth, and where it fails, what it has read is the beginning of one.
 -- Assumes nothing.
 use mathlib.Core.Path.{_≡_, refl, ap, sym, subst, subst⁻¹, _∙_}
-use mathlib.Core.Bool.{_&&_, cond}
+use mathlib.Core.Bool.{_&&_}
 use mathlib.Core.Option.{Option, none, some, Option·none-ne-some, Option·some-injective}
 use mathlib.Core.List.{List, [], _∷_, _++_, append-assoc}
-use Prim.Native.Nat.{ℕ, zero, suc, _+_, _-_, _≤_, max}
+use Prim.Native.Nat.{ℕ, zero, suc, _+_, _-_, _≤_}
 use native.Mathlib.Omega.{arith}
-use lib.Dec.{T, eqb, leb, eqb→eq, leb→le}
+use lib.Dec.{eqb, leb, eqb→eq, leb→le}
 use Rattle.model.proofs.Lists.{cond-some, and-both}
 use Rattle.text.specs.Grammar.{
   Spelled,
@@ -19,7 +19,6 @@ use Rattle.text.specs.Grammar.{
   summed,
   chosen,
   bound,
-  variable,
   bracket,
   Level,
   tight,

@@ -1,3 +1,4 @@
 pub mod Found
 pub mod Parse
 pub mod Widths
+pub mod Stops
