@@ -1,7 +1,10 @@
-pub mod Substitution
+pub mod Found
+pub mod Parse
+pub mod Stops
 pub mod Widths
 pub mod Variables
 pub mod Blanks
+pub mod Substitution
 pub mod Moves
 pub mod Senses
 pub mod Stands
