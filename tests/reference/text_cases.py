@@ -58,7 +58,7 @@ def length_of(text):
 
 
 def documents():
-    """Document 01's terms, the request's own example of a trap being in limits."""
+    """Document 01's terms, old and new."""
     for case in CASES:
         for which, term in zip(("old", "new"), TERMS[case.name]):
             yield Framed(f"{case.name} {which}: {term}", term.encode())

@@ -9,7 +9,6 @@ from itertools import islice, product, zip_longest
 from unittest import mock
 
 from . import text_cases, texts
-from .actions import mask_of
 from .cases import CASES
 from .chance import Chance
 from .choosing import Afterwards, Answer
@@ -18,7 +17,9 @@ from .text_cases import TERMS
 from .text_edges import SAMPLES
 from .text_limits import all_rows_long, halves, numberings, places, prefixes, ranks, rings, variables
 from .text_random import KNOWN, Shape, random_term, whole, with_blanks, written
-from .text_terms import Bracket, Choice, End, Prefix, Rec, Sum, Variable, byte_at_fault, depth_of, tree_of
+from .text_tables import Tables, derived, fault_by_tables
+from .text_terms import byte_at_fault, depth_of, tree_of
+from .text_transitions import count_from, directly_behind, ended, literally, marked, plain, ready_sets, silently
 from .text_wrong import WRONG, both_to_the_right, regrouped
 from .texts import fault_of, masks_of, read_text, unions
 
@@ -137,109 +138,6 @@ def texts_of_all():
     return [*"abcdefg", *(f"!{name}" for name in "abcdefg")]
 
 
-# The grammar as a table: for each symbol its rules, and what each counts
-
-GRAMMAR = {
-    "whole": [(0, ["sums"]), (0, ["whole", *"(+)", "sums"])],
-    "sums": [(0, ["tight"]), (0, ["sums", "+", "tight"])],
-    "tight": [
-        (0, ["0"]),
-        (0, ["variable"]),
-        (1, ["action"]),
-        (1, ["action", ".", "tight"]),
-        (1, [*"rec", "variable", ".", "tight"]),
-        (1, ["(", "whole", ")"]),
-    ],
-    "variable": [(0, [name]) for name in "XYZ"],
-    "action": [(0, [name]) for name in "abcdefg"] + [(0, ["!", name]) for name in "abcdefg"],
-}
-
-
-class Tables:
-    """All derivations of the parts of a text without blanks, by the table."""
-
-    def __init__(self, text):
-        self.text = text
-        self.count, self.count_all, self.begins = map(cache, (self.count, self.count_all, self.begins))
-
-    def count(self, symbol, begin, end, depth):
-        """In how many ways the symbol derives the part within the depth."""
-        if symbol not in GRAMMAR:
-            return int(self.text[begin:end] == symbol)
-        fitting = [(depth - cost, tuple(symbols)) for cost, symbols in GRAMMAR[symbol] if cost <= depth]
-        return sum(self.count_all(symbols, begin, end, left) for left, symbols in fitting)
-
-    def count_all(self, symbols, begin, end, depth):
-        """In how many ways the symbols one after the other do."""
-        first, *rest = symbols
-        if not rest:
-            return self.count(first, begin, end, depth)
-        ways = 0
-        for middle in range(begin + 1, end - len(rest) + 1):
-            behind = self.count_all(tuple(rest), middle, end, depth)
-            ways += behind and behind * self.count(first, begin, middle, depth)
-        return ways
-
-    def begins(self, symbol, begin, depth):
-        """Whether the text from there on begins something that the symbol
-        derives.  Every symbol derives something within every depth."""
-        if begin == len(self.text):
-            return True
-        if symbol not in GRAMMAR:
-            return self.text[begin:] == symbol
-        return any(
-            self.all_begin(symbols, begin, depth - cost, symbol) for cost, symbols in GRAMMAR[symbol] if cost <= depth
-        )
-
-    def all_begin(self, symbols, begin, depth, left=None):
-        """The same for symbols one after the other.  What begins a symbol
-        through its own first symbol begins it without."""
-        first, *rest = symbols
-        if first != left and self.begins(first, begin, depth):
-            return True
-        return bool(rest) and any(
-            self.count(first, begin, middle, depth) and self.all_begin(rest, middle, depth)
-            for middle in range(begin + 1, len(self.text) + 1)
-        )
-
-
-def fault_by_tables(text, depth):
-    """As byte_at_fault, of a text without blanks."""
-    for length in range(1, len(text) + 1):
-        if not Tables(text[:length]).begins("whole", 0, depth):
-            return length - 1
-    return None if Tables(text).count("whole", 0, len(text), depth) else len(text)
-
-
-def derived(longest, depth):
-    """Every text of so many bytes at most that the grammar derives within the
-    depth, over the name a and the variable X."""
-
-    @cache
-    def by(symbol, length, depth):
-        if symbol not in GRAMMAR:
-            return {symbol} if length == 1 and symbol not in "YZbdfg" else set()
-        found = set()
-        for cost, symbols in GRAMMAR[symbol]:
-            if cost <= depth and symbols not in ([name] for name in "ce") and symbols not in (["!", name] for name in "ce"):
-                found |= by_all(tuple(symbols), length, depth - cost)
-        return found
-
-    @cache
-    def by_all(symbols, length, depth):
-        first, *rest = symbols
-        if not rest:
-            return by(first, length, depth)
-        return {
-            one + other
-            for size in range(1, length - len(rest) + 1)
-            for other in by_all(tuple(rest), length - size, depth)
-            for one in by(first, size, depth)
-        }
-
-    return {text for length in range(1, longest + 1) for text in by("whole", length, depth)}
-
-
 def grammar_noise(chance):
     """Short strings over the alphabet, some of them near texts."""
     if chance.one_in(3):
@@ -310,144 +208,6 @@ class Grammar(unittest.TestCase):
             text = data[2:]
             if len(text) <= 256:
                 self.assertEqual(tree_of(text) is None, byte_at_fault(text) is not None)
-
-
-# The transitions of document 000.  A term is as in text_random; behind a bare
-# action stands 0.  A mark is put into each term that can be a place.
-
-
-def ended(term):
-    """The term with 0 behind bare actions."""
-    match term:
-        case ("act", action, None):
-            return ("act", action, ("0",))
-        case (kind, *parts):
-            return (kind, *(ended(part) if isinstance(part, tuple) else part for part in parts))
-
-
-def plain(tree):
-    """The term of a tree."""
-    match tree:
-        case End():
-            return ("0",)
-        case Variable():
-            return ("use", chr(tree.name))
-        case Prefix():
-            return ("act", tree.action, plain(tree.then))
-        case Rec():
-            return ("rec", chr(tree.name), plain(tree.body))
-        case Bracket():
-            return plain(tree.body)
-        case Sum():
-            return ("+", plain(tree.left), plain(tree.right))
-        case Choice():
-            return ("(+)", plain(tree.left), plain(tree.right))
-
-
-def marked(term, count):
-    """The term with a number in front that no other place has; all ends have
-    the same."""
-    kind, *parts = term
-    mark = 0 if kind == "0" else next(count)
-    return (mark, kind, *(marked(part, count) if isinstance(part, tuple) else part for part in parts))
-
-
-def put(term, name, value):
-    """The term with the value for every free occurrence of the variable."""
-    mark, kind, *parts = term
-    if kind == "use":
-        return value if parts[0] == name else term
-    if kind == "rec" and parts[0] == name:
-        return term
-    return (mark, kind, *(put(part, name, value) if isinstance(part, tuple) else part for part in parts))
-
-
-def unfolded(term):
-    return put(term[3], term[2], term)
-
-
-def internal(term):
-    """-->"""
-    match term:
-        case (_, "rec", _, _):
-            return {unfolded(term)}
-        case (_, "(+)", left, right):
-            return {left, right}
-        case (mark, "+", left, right):
-            moved_left = {(mark, "+", after, right) for after in internal(left)}
-            return moved_left | {(mark, "+", left, after) for after in internal(right)}
-    return set()
-
-
-def visible(term):
-    """Each action and what it leads to."""
-    match term:
-        case (_, "act", action, then):
-            return {(action, then)}
-        case (_, "+", left, right):
-            return visible(left) | visible(right)
-    return set()
-
-
-def silently(terms):
-    """==>"""
-    found, coming = set(), list(terms)
-    while coming:
-        term = coming.pop()
-        if term not in found:
-            found.add(term)
-            coming += internal(term)
-    return found
-
-
-def directly_behind(terms, action):
-    """==> and then the action."""
-    return {then for term in silently(terms) for made, then in visible(term) if made == action}
-
-
-def init(term):
-    return mask_of(*(action for action in range(14) if directly_behind({term}, action)))
-
-
-def ready_sets(terms):
-    """Definition 2.5 for the internal choice of the terms."""
-    return {init(term) for term in silently(terms) if not internal(term)}
-
-
-def at_place(term):
-    """The number of the place that a closed term is."""
-    while term[1] == "rec":
-        term = unfolded(term)
-    return term[0]
-
-
-def count_from(first):
-    while True:
-        yield first
-        first += 1
-
-
-def literally(term):
-    """The contract of a closed term by transitions alone, or 19 or 20: states
-    are sets of places directly behind the actions so far."""
-    start = {marked(term, count_from(1))}
-    sets, terms, states = [{at_place(one) for one in start}], [start], []
-    for one in terms:
-        successors = {}
-        for action in range(14):
-            after = directly_behind(one, action)
-            if after:
-                found = {at_place(then) for then in after}
-                if found not in sets:
-                    sets.append(found)
-                    terms.append(after)
-                successors[action] = sets.index(found)
-        if len(sets) > 64:
-            return 19
-        states.append((ready_sets(one), successors))
-    if any(len(ready) > 8 for ready, _ in states):
-        return 20
-    return Contract(7, 0, tuple(state(ready, list(successors.values())) for ready, successors in states))
 
 
 class TextMeaning(unittest.TestCase):
