@@ -7,14 +7,14 @@ repository's root.
     make show KIND NUMBER   a case, counted from 0: label, bytes, expected lines
     make write KIND FOLDER  the two files of any kind, into a folder
 
-A kind is one of sheets, pairs, steps, clients, runs, choosing, edits, rows.
+A kind is one of sheets, pairs, steps, clients, runs, choosing, edits, rows, texts.
 """
 
 import sys
 from collections import Counter
 from pathlib import Path
 
-from . import choosing_cases, client_cases, edit_cases, pair_cases, row_cases, run_cases, sheet_cases, step_cases
+from . import choosing_cases, client_cases, edit_cases, pair_cases, row_cases, run_cases, sheet_cases, step_cases, text_cases
 from .framing import packed
 from .program import printed
 from .program_inputs import stored_inputs
@@ -28,6 +28,7 @@ KINDS = {
     "choosing": choosing_cases,
     "edits": edit_cases,
     "rows": row_cases,
+    "texts": text_cases,
 }
 
 #: The kinds that a test program runs, and its crate.
@@ -40,6 +41,7 @@ STORED = {
     "choosing": Path("crates/choosing_cases"),
     "edits": Path("crates/edit_cases"),
     "rows": Path("crates/row_cases"),
+    "texts": Path("crates/text_cases"),
 }
 
 

@@ -33,6 +33,7 @@ from .row_selfcheck import BytesAtFault, Rows, WrongRules
 from .runs import At, Attempt, run
 from .settled_selfcheck import Settled
 from .sheets import CLIENT, SERVICE, Contract, Refusal, offered, read_sheet, state, write_sheet
+from .text_selfcheck import Grammar, TextMeaning, TypedTexts, WrongTexts
 
 #: Checked with the rest.
 OTHERS = (
@@ -46,6 +47,10 @@ OTHERS = (
     BytesAtFault,
     Rows,
     WrongRules,
+    TypedTexts,
+    Grammar,
+    TextMeaning,
+    WrongTexts,
 )
 
 MARKED = Situation((9,) * 14, 9, 9)
