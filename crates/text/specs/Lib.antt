@@ -4,4 +4,5 @@ pub mod Transitions
 pub mod Parser
 pub mod Places
 pub mod Convert
+pub mod Cells
 pub mod Promises
