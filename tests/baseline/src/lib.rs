@@ -1,21 +1,26 @@
 //! Document 01's connecting, stepping and client check, and from document 02 the conversion of choosing sheets (request
-//! 1/13), the check of edited plans (3/13), the settled mode of both (5/13) and the row of a state (6/13), written from
-//! the documents and for speed: a third implementation, beside the crates and the reference program. It shares nothing
-//! with them. The benchmark compares the crates with it, then measures them against it.
+//! 1/13), the check of edited plans (3/13), the settled mode of both (5/13), the row of a state (6/13) and contracts typed
+//! as text (7/13), written from the documents and for speed: a third implementation, beside the crates and the reference
+//! program. It shares nothing with them. The benchmark compares the crates with it, then measures them against it.
 #![forbid(unsafe_code)]
 
 mod choosing;
 mod client;
 mod connect;
 mod edits;
+mod family;
 mod index;
 mod numbering;
 mod plan;
 mod reach;
+mod ready;
 mod rounds;
 mod row;
 mod sheet;
 mod situation;
+mod term;
+mod text;
+mod written;
 
 pub use choosing::convert;
 pub use client::complies;
@@ -23,6 +28,7 @@ pub use connect::Workspace;
 pub use edits::{Checker, Fault};
 pub use plan::step;
 pub use row::{row, row_refusal, Part};
+pub use text::{from_text, text_fault};
 
 /// The length of the longest sheet.
 pub const LONGEST_SHEET: usize = 2118;
@@ -63,6 +69,16 @@ pub struct Answer {
     pub states: u16,
     pub rounds: u16,
     pub length: u32,
+}
+
+/// What reading a text answers: 0 or the refusal's number, the sheet and the state that it carries, and the length of the
+/// sheet that was written.
+#[derive(Clone, Copy, Debug, Default, PartialEq, Eq)]
+pub struct SheetAnswer {
+    pub number: u8,
+    pub sheet: u8,
+    pub state: u8,
+    pub length: u16,
 }
 
 /// The number of a refusal, and what it carries: the sheet, and of 4 to 7 the state and the offset of the byte at fault.

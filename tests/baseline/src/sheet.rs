@@ -11,6 +11,9 @@ pub const SUCCESS: u16 = 1 << 14;
 /// The bits of all actions.
 pub const ACTIONS: u16 = SUCCESS - 1;
 
+/// How many actions there are.
+pub const ACTION_COUNT: usize = ACTIONS.count_ones() as usize;
+
 pub const TRAILER: usize = 6;
 pub const CLOSING: u8 = 0xC5;
 pub const MOST_STATES: usize = 64;

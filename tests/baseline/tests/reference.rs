@@ -1,13 +1,17 @@
 //! Agreement with the reference program on the data that is stored for the test programs sheet_cases, pair_cases,
-//! step_cases, client_cases, choosing_cases, edit_cases and row_cases. tests/reference/README.md says how the records and
-//! the lines are laid out.
+//! step_cases, client_cases, choosing_cases, edit_cases, row_cases and text_cases. tests/reference/README.md says how the
+//! records and the lines are laid out.
 
-use baseline::{complies, convert, row, row_refusal, step, Checker, Mode, Refusal, Workspace};
-use std::path::Path;
+use baseline::{complies, convert, from_text, row, row_refusal, step, text_fault, Checker, Mode, Refusal, Workspace};
+use std::path::{Path, PathBuf};
+
+fn folder(program: &str) -> PathBuf {
+    Path::new(env!("CARGO_MANIFEST_DIR")).join("../../crates").join(program)
+}
 
 /// The stored input of a test program and what it is to print.
 fn stored(program: &str) -> (Vec<u8>, String) {
-    let folder = Path::new(env!("CARGO_MANIFEST_DIR")).join("../../crates").join(program);
+    let folder = folder(program);
     let read = |name| std::fs::read(folder.join(name)).unwrap_or_else(|error| panic!("{program}/{name}: {error}"));
     (read("stdin"), String::from_utf8(read("stdout")).unwrap())
 }
@@ -105,13 +109,33 @@ fn rows() {
     });
 }
 
+/// As many bytes as are lent, as they are before the call.
+fn lent(bytes: usize) -> Vec<u8> {
+    (0..bytes).map(|place| !(place as u8)).collect()
+}
+
 #[test]
 fn choosing_sheets() {
     agree("choosing_cases", 0, |record| {
-        let mut sheet: Vec<u8> = (0..word(record, 0)).map(|place| !(place as u8)).collect();
+        let mut sheet = lent(word(record, 0));
         let (number, length) = convert(&record[2..], &mut sheet);
         let answer = [number.into(), 0, 0, length.into()];
         answer.into_iter().chain(sheet.into_iter().map(u64::from)).collect()
+    });
+}
+
+/// The answer, what is at fault, and every byte that was lent. There may be no such data.
+#[test]
+fn texts() {
+    if !["stdin", "stdout"].iter().all(|name| folder("text_cases").join(name).exists()) {
+        return println!("text_cases: no data");
+    }
+    agree("text_cases", 0, |record| {
+        let (mut sheet, text) = (lent(word(record, 0)), &record[2..]);
+        let answer = from_text(text, &mut sheet);
+        let head: [u64; 3] = [answer.number.into(), answer.sheet.into(), answer.state.into()];
+        let tail: [u64; 2] = [answer.length.into(), text_fault(text).into()];
+        head.into_iter().chain(tail).chain(sheet.into_iter().map(u64::from)).collect()
     });
 }
 
