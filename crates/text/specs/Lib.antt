@@ -5,3 +5,4 @@ pub mod Parser
 pub mod Places
 pub mod Convert
 pub mod Promises
+pub mod Cases
