@@ -9,3 +9,4 @@ pub mod Moves
 pub mod Senses
 pub mod Stands
 pub mod Words
+pub mod Cases

@@ -6,3 +6,4 @@ pub mod Places
 pub mod Convert
 pub mod Cells
 pub mod Promises
+pub mod Cases
