@@ -1,0 +1,112 @@
+// The ready sets of a place, told the cells of all places: a family of masks is joined with each part in turn, so that no two families are
+// ever combined. Request 7/13, "ready sets of + are all unions of one from each side".
+ghost use mathlib.Core.Path.{_≡_};
+ghost use Prim.Native.Nat.{_+_, _*_, _≤_, _<_};
+ghost use lib.ListN.{length};
+ghost use Rattle.text.specs.Cells.{Ends, cellAt};
+ghost use Rattle.text_ready.specs.Ready.{JoinedBy, Added};
+
+// Above all places: a link from here on leads to the body of a rec.
+const PLACES: u16 = 256;
+
+// The kind of a cell: an action, or 14 for + and 15 for (+).
+fn kind_of(cell: u32) -> u8
+    ensures { λ r. ⌜ r ≡ unpacked cell .kind ⌝ }
+{
+    (cell % 16) as u8
+}
+
+// What a cell leads to first.
+fn left_of(cell: u32) -> u16
+    ensures { λ r. ⌜ r ≡ unpacked cell .left ⌝ }
+{
+    (cell / 16 % 512) as u16
+}
+
+// What it leads to besides. Links are below 512.
+fn right_of(cell: u32) -> u16
+    requires { ⌜ unpacked cell .right < 512 ⌝ }
+    ensures { λ r. ⌜ r ≡ unpacked cell .right ⌝ }
+{
+    (cell / 8192) as u16
+}
+
+// The body of a rec joined with a family, unless it is known to change nothing. Notes if it changed nothing.
+fn join_body(cells: &[u32], bodies: &[u16], r: usize, family: &mut [u64], recs: u64) -> u64
+    requires { ⌜ (r < length (now bodies)) × (length (now bodies) ≤ 64) × (length (now cells) ≤ 256) × (length (now family) ≡ 256)
+        × Ends (now cells) (now bodies) (r + 1) (256 + r) ⌝ }
+    ensures { λ a. ⌜ JoinedBy (now (cells .entry)) (now (bodies .entry)) (256 + r) recs (now (family .entry)) (now (family .exit)) a ⌝ }
+{
+    if (recs >> r) % 2 == 1 {
+        return recs;
+    }
+    let mut before = [0u64; 256];
+    families::copy(family, &mut before);
+    let then = join(cells, bodies, bodies[r], r, family, recs);
+    if families::same(&before, family) { then | (1 << r) } else { then }
+}
+
+// What a link leads to, joined with the family at the start and put into one family with the other parts of an internal choice.
+fn add_part(cells: &[u32], bodies: &[u16], link: u16, bound: usize, start: &[u64], recs: u64, all: &mut [u64], kept: u64) -> u64
+    requires { ⌜ Ends (now cells) (now bodies) bound link × (bound ≤ length (now bodies)) × (length (now bodies) ≤ 64)
+        × (length (now cells) ≤ 256) × (length (now start) ≡ 256) × (length (now all) ≡ 256) ⌝ }
+    ensures { λ a. ⌜ Added (now (cells .entry)) (now (bodies .entry)) link recs (now (start .entry)) (now (all .entry)) (now (all .exit)) kept a ⌝ }
+{
+    let mut part = [0u64; 256];
+    families::copy(start, &mut part);
+    let then = join(cells, bodies, link, bound, &mut part, recs);
+    families::unite(all, &part);
+    kept & then
+}
+
+// An internal choice joined with a family: each of its parts with what the family was. A chain of choices to the left is gone along.
+fn join_choice(cells: &[u32], bodies: &[u16], place: u16, bound: usize, family: &mut [u64], recs: u64) -> u64
+    requires { ⌜ .. ⌝ }
+{
+    let mut start = [0u64; 256];
+    families::copy(family, &mut start);
+    let mut all = [0u64; 256];
+    let mut kept = u64::MAX;
+    let mut at = place;
+    while is_choice(cells, at) {
+        kept = add_part(cells, bodies, right_of(cells[at as usize]), bound, &start, recs, &mut all, kept);
+        at = left_of(cells[at as usize]);
+    }
+    kept = add_part(cells, bodies, at, bound, &start, recs, &mut all, kept);
+    families::copy(&all, family);
+    kept
+}
+
+// A family joined with what a link leads to. Answers which recs' bodies would change nothing any more.
+fn join(cells: &[u32], bodies: &[u16], link: u16, bound: usize, family: &mut [u64], recs: u64) -> u64
+    requires { ⌜ Ends (now cells) (now bodies) bound link × (bound ≤ length (now bodies)) × (length (now bodies) ≤ 64)
+        × (length (now cells) ≤ 256) × (length (now family) ≡ 256) ⌝ }
+    ensures { λ a. ⌜ JoinedBy (now (cells .entry)) (now (bodies .entry)) link recs (now (family .entry)) (now (family .exit)) a ⌝ }
+{
+    if PLACES <= link {
+        return join_body(cells, bodies, (link - PLACES) as usize, family, recs);
+    }
+    if link == 0 {
+        return recs;
+    }
+    let cell = cells[link as usize];
+    let kind = kind_of(cell);
+    if kind < 14 {
+        families::gain(family, kind);
+        return recs;
+    }
+    if kind == 15 {
+        return join_choice(cells, bodies, link, bound, family, recs);
+    }
+    let then = join(cells, bodies, left_of(cell), bound, family, recs);
+    join(cells, bodies, right_of(cell), bound, family, then)
+}
+
+// The ready sets of a place, ascending, eight of them at most. Gives how many there are, 9 if more than eight.
+pub fn put_ready(cells: &[u32], bodies: &[u16], place: u16, out: &mut [u16]) -> u8
+{
+    let mut family = [0u64; 256];
+    families::only_empty(&mut family);
+    join(cells, bodies, place, bodies.len(), &mut family, 0);
+    families::masks(&family, out)
+}
