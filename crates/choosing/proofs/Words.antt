@@ -2,21 +2,20 @@
 -- on the word, the set behind it holds exactly the rows directly behind it.
 -- Assumes nothing.
 use mathlib.Core.Path.{_≡_, refl, sym, ap, subst, subst⁻¹, _∙_}
-use mathlib.Core.Option.{Option, some, bind, Option·map, map-eq-some-iff, bind-eq-some-iff, Option·some-injective}
+use mathlib.Core.Option.{some, bind, Option·map, map-eq-some-iff, bind-eq-some-iff, Option·some-injective}
 use mathlib.Core.List.{List, [], _∷_, List·Memᴰ}
-use Prim.Native.Nat.{ℕ, _<_}
-use lib.Dec.{T, eqb, ltb, ltb→lt}
+use Prim.Native.Nat.{ℕ}
+use lib.Dec.{T, eqb}
 use borrow.Author.Tests.{lt-ltb}
 use Rattle.model.specs.Lists.{through}
 use Rattle.model.specs.Contract.{Contract, has}
 use Rattle.model.specs.Sheet.{good, readSheet}
-use Rattle.model.proofs.Lists.{cond-some}
 use Rattle.model.proofs.Rounds.{same-number}
 use Rattle.model.proofs.Masks.{has-power, power-has}
 use Rattle.nodes.specs.Nodes.{contractOf}
 use Rattle.nodes.specs.Words.{byAction, nodeAfter, readyAfter, nodesReady}
 use Rattle.nodes.specs.SheetBytes.{sheetBytes}
-use Rattle.nodes.proofs.Words.{made-ready}
+use Rattle.nodes.proofs.Words.{action-elim, made-ready}
 use Rattle.nodes.proofs.Made.{made-read-back}
 use Rattle.nodes.proofs.Transitions.{along-split, along-join}
 use Rattle.choosing.specs.Rows.{Choosing, Formed}
@@ -26,10 +25,6 @@ use Rattle.choosing.specs.Convert.{readySets, nextRows}
 use Rattle.choosing.specs.Promises.{StatesAreSets, ReadyAreSets}
 use Rattle.choosing.proofs.Rows.{silently-within, mask-initial, initial-mask}
 use Rattle.choosing.proofs.Lawful.{Proper, start-proper, next-proper, closed-intro, closed-elim, ready-intro, ready-elim, next-elim, next-intro, sets-lawful}
-
-action-elim : {N : Type 0} (next : N → ℕ → Option N) (x : N) (j : ℕ) (y : N) → byAction next x j ≡ some y → (j < 14) × (next x j ≡ some y)
-unfolding byAction
-action-elim next x j y e = let w = cond-some (ltb j 14) (next x j) y e in (ltb→lt j 14 (w .0), w .1)
 
 module _ (c : Choosing) where
   module _ (formed : Formed c) where

@@ -7,16 +7,22 @@ use mathlib.Core.Option.{Option, none, some, bind, Option·map, Option·none-ne-
 use mathlib.Core.List.{List, [], _∷_, List·Memᴰ}
 use Prim.Native.Nat.{ℕ, _<_}
 use lib.ListN.{getElem?}
-use lib.Dec.{T, ltb}
+use lib.Dec.{T, ltb, ltb→lt}
 use borrow.Author.Tests.{ltb-true}
 use Rattle.model.specs.Lists.{through}
 use Rattle.model.specs.Contract.{Contract, State, state, offers, offersIn, after}
 use Rattle.model.specs.Sheet.{good}
+use Rattle.model.proofs.Lists.{cond-some}
 use Rattle.model.proofs.Rounds.{IsSame}
 use Rattle.model.proofs.PlanRows.{at-mem}
 use Rattle.nodes.specs.Nodes.{Lawful, nodesFound, stateOf, contractWith, contractOf}
 use Rattle.nodes.specs.Words.{byAction, nodeAfter, goesOn, stateAfter, readyAfter, nodesReady}
 use Rattle.nodes.proofs.Nodes.{contract-nodes, start-first, node-reached, state-is, after-node}
+
+-- an action that was done is one of the fourteen
+pub action-elim : {N : Type 0} (next : N → ℕ → Option N) (x : N) (j : ℕ) (y : N) → byAction next x j ≡ some y → (j < 14) × (next x j ≡ some y)
+unfolding byAction
+action-elim next x j y e = let w = cond-some (ltb j 14) (next x j) y e in (ltb→lt j 14 (w .0), w .1)
 
 module _ {N : Type 0} (same : N → N → Bool) (isSame : IsSame same) (next : N → ℕ → Option N) (ready : N → List ℕ) (start : N) (n : ℕ)
     (lawful : Lawful n next ready start) (ended : nodesFound same next start .todo ≡ []) where

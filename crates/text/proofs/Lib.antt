@@ -8,4 +8,6 @@ pub mod Substitution
 pub mod Moves
 pub mod Senses
 pub mod Stands
+pub mod Fits
+pub mod Lawful
 pub mod Words
