@@ -1,9 +1,10 @@
 -- For every sequence of actions the contract that is converted to and the rows have the same ready sets, and can do the same: by induction
 -- on the word, the set behind it holds exactly the rows directly behind it.
 -- Assumes nothing.
-use mathlib.Core.Path.{_≡_, refl, sym, ap, subst, subst⁻¹, _∙_}
-use mathlib.Core.Option.{some, bind, Option·map, map-eq-some-iff, bind-eq-some-iff, Option·some-injective}
-use mathlib.Core.List.{List, [], _∷_, List·Memᴰ}
+use mathlib.Core.Path.{_≡_, refl, sym, subst, subst⁻¹, _∙_}
+use mathlib.Core.Logic.{_↔_}
+use mathlib.Core.Option.{some, bind, bind-eq-some-iff, Option·some-injective}
+use mathlib.Core.List.{List, [], _∷_}
 use Prim.Native.Nat.{ℕ}
 use lib.Dec.{T, eqb}
 use borrow.Author.Tests.{lt-ltb}
@@ -13,13 +14,14 @@ use Rattle.model.specs.Sheet.{good, readSheet}
 use Rattle.model.proofs.Rounds.{same-number}
 use Rattle.model.proofs.Masks.{has-power, power-has}
 use Rattle.nodes.specs.Nodes.{contractOf}
-use Rattle.nodes.specs.Words.{byAction, nodeAfter, readyAfter, nodesReady}
+use Rattle.nodes.specs.Words.{byAction, nodeAfter}
 use Rattle.nodes.specs.SheetBytes.{sheetBytes}
-use Rattle.nodes.proofs.Words.{action-elim, made-ready}
+use Rattle.nodes.proofs.Words.{action-elim}
+use Rattle.nodes.proofs.Behind.{made-behind}
 use Rattle.nodes.proofs.Made.{made-read-back}
 use Rattle.nodes.proofs.Transitions.{along-split, along-join}
 use Rattle.choosing.specs.Rows.{Choosing, Formed}
-use Rattle.nodes.specs.Transitions.{rests, Along, Behind, at-once, acts, SameBehind}
+use Rattle.nodes.specs.Transitions.{rests, Behind, at-once, acts, CanDo, SameBehind}
 use Rattle.choosing.specs.Transitions.{Hides, Does, Circle}
 use Rattle.choosing.specs.Convert.{readySets, nextRows}
 use Rattle.choosing.specs.Promises.{StatesAreSets, ReadyAreSets}
@@ -85,45 +87,21 @@ module _ (c : Choosing) where
           (initial-mask c formed (w .0) R (w .2) (w .3))),
     )
 
-    -- the set behind a word that the rows can do
-    set-behind : (word : List ℕ) (s : ℕ) → Along (Hides c) (Does c) word 0 s → (x : ℕ) × (nodeAfter (nextRows c) 1 word ≡ some x)
-    set-behind word s g = let k = along-split (Hides c) (Does c) g in let w = states-are-sets word (k .0) .1 (k .1) in (w .0, w .1)
+    -- there is a set behind a word exactly if the rows can do it
+    can-are-sets : (word : List ℕ) → ((x : ℕ) × (nodeAfter (nextRows c) 1 word ≡ some x)) ↔ CanDo (Hides c) (Does c) 0 word
+    can-are-sets word = (
+      (λ w.
+          let k = node-proper word 1 (w .0) (start-proper c formed) (w .1) .some-row in
+          (k .0, along-join (Hides c) (Does c) (states-are-sets word (k .0) .0 (w .0, w .1, k .1)) (rests refl))),
+      (λ w. let k = along-split (Hides c) (Does c) (w .1) in let v = states-are-sets word (k .0) .1 (k .1) in (v .0, v .1)),
+    )
 
     module _ (calm : Circle c → ⊥) (made : Contract) (is-made : contractOf eqb (nextRows c) (readySets c) (c .n) 1 ≡ good made) where
-      -- the ready sets of the contract are those of the sets of rows
-      is-node : (word : List ℕ) → readyAfter made word ≡ Option·map (readySets c) (nodeAfter (nextRows c) 1 word)
-      unfolding nodesReady
-      is-node word =
-          made-ready eqb same-number (nextRows c) (readySets c) 1 (c .n) (sets-lawful c formed calm) made is-made word
-
-      -- the set of rows behind a word that the contract can do
-      node-of : (word l : List ℕ) → readyAfter made word ≡ some l → (x : ℕ) × (nodeAfter (nextRows c) 1 word ≡ some x) × (readySets c x ≡ l)
-      node-of word l e = map-eq-some-iff (readySets c) (nodeAfter (nextRows c) 1 word) .0 (sym (is-node word) ∙ e)
-
-      -- and back
-      of-node : (word : List ℕ) (x : ℕ) → nodeAfter (nextRows c) 1 word ≡ some x → readyAfter made word ≡ some (readySets c x)
-      of-node word x e = is-node word ∙ ap (Option·map (readySets c)) e
-
       -- "for every sequence of actions both have the same ready sets"
       pub same-behind : (word : List ℕ) → SameBehind (Hides c) (Does c) 0 made word
-      same-behind word =
-          record {
-            same-ready = λ R. (
-              (λ w.
-                  let v = node-of word (w .0) (w .1) in
-                  ready-are-sets word (v .0) (v .1) R .0 (subst⁻¹ (List·Memᴰ R) (v .2) (w .2))),
-              (λ w.
-                  let v = set-behind word (w .0) (w .1) in
-                  (readySets c (v .0), of-node word (v .0) (v .1), ready-are-sets word (v .0) (v .1) R .1 w)),
-            );
-            same-can = (
-              (λ w.
-                  let v = node-of word (w .0) (w .1) in
-                  let k = node-proper word 1 (v .0) (start-proper c formed) (v .1) .some-row in
-                  (k .0, along-join (Hides c) (Does c) (states-are-sets word (k .0) .0 (v .0, v .1, k .1)) (rests refl))),
-              (λ w. let v = set-behind word (w .0) (w .1) in (readySets c (v .0), of-node word (v .0) (v .1))),
-            );
-          }
+      same-behind =
+          made-behind eqb same-number (nextRows c) (readySets c) 1 (c .n) (sets-lawful c formed calm) made is-made (Hides c) (Does c) 0
+          ready-are-sets can-are-sets
 
       -- the sheet of the contract reads back as it
       pub made-sheet : readSheet (sheetBytes (c .n) 0 (made .states)) ≡ good (record { contract = made; role = 0 })

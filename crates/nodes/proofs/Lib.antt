@@ -2,6 +2,7 @@ pub mod Nodes
 pub mod Sets
 pub mod Transitions
 pub mod Words
+pub mod Behind
 pub mod Bytes
 pub mod Standing
 pub mod Parts
