@@ -9,6 +9,7 @@ pub mod Parts
 pub mod Sheets
 pub mod Made
 pub mod Refused
+pub mod Outcome
 pub mod Noting
 pub mod Filled
 pub mod Writing

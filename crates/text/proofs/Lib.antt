@@ -11,3 +11,5 @@ pub mod Stands
 pub mod Fits
 pub mod Lawful
 pub mod Words
+pub mod Read
+pub mod Says
