@@ -13,3 +13,4 @@ pub mod Lawful
 pub mod Words
 pub mod Read
 pub mod Says
+pub mod Faults
