@@ -3,20 +3,19 @@
 -- Assumes nothing.
 use mathlib.Core.Path.{_≡_, refl, sym, subst, subst⁻¹, _∙_}
 use mathlib.Core.Logic.{_↔_}
-use mathlib.Core.Option.{some, bind, bind-eq-some-iff, Option·some-injective}
+use mathlib.Core.Option.{some, Option·some-injective}
 use mathlib.Core.List.{List, [], _∷_}
 use Prim.Native.Nat.{ℕ}
 use lib.Dec.{T, eqb}
-use borrow.Author.Tests.{lt-ltb}
 use Rattle.model.specs.Lists.{through}
 use Rattle.model.specs.Contract.{Contract, has}
 use Rattle.model.specs.Sheet.{good, readSheet}
 use Rattle.model.proofs.Rounds.{same-number}
 use Rattle.model.proofs.Masks.{has-power, power-has}
 use Rattle.nodes.specs.Nodes.{contractOf}
-use Rattle.nodes.specs.Words.{byAction, nodeAfter}
+use Rattle.nodes.specs.Words.{nodeAfter}
 use Rattle.nodes.specs.SheetBytes.{sheetBytes}
-use Rattle.nodes.proofs.Words.{action-elim}
+use Rattle.nodes.proofs.Words.{node-first, first-node, node-keeps}
 use Rattle.nodes.proofs.Behind.{made-behind}
 use Rattle.nodes.proofs.Made.{made-read-back}
 use Rattle.nodes.proofs.Transitions.{along-split, along-join}
@@ -33,12 +32,12 @@ module _ (c : Choosing) where
     -- the rows directly behind those of a set are found in the set after it
     behind-node : {word : List ℕ} {r s : ℕ} (x : ℕ) → Proper c formed x → T (has x r) → Behind (Hides c) (Does c) word r s
         → (y : ℕ) × (nodeAfter (nextRows c) x word ≡ some y) × T (has y s)
-    unfolding nodeAfter byAction through bind
+    unfolding nodeAfter through
     behind-node x p m (at-once e) = (x, refl, subst (λ (z : ℕ). T (has x z)) e m)
     behind-node {r = r} x p m (acts {word = word} {s = s} {t = v} j h w d g) =
         let n = next-intro c x j s v (silently-within c formed (p .inside r m) w) (closed-intro c x r s m w) d in
         let k = behind-node (n .0) (next-proper c formed x j (n .0) h (n .1)) (n .2) g in
-        (k .0, rw (lt-ltb j 14 h, n .1) (k .1), k .2)
+        (k .0, first-node (nextRows c) j word x (k .0) (n .0) h (n .1) (k .1), k .2)
 
     -- what is found is directly behind some row of the set, and a proper set
     node-behind : (word : List ℕ) (x y s : ℕ) → nodeAfter (nextRows c) x word ≡ some y → T (has y s)
@@ -46,20 +45,14 @@ module _ (c : Choosing) where
     unfolding nodeAfter through
     node-behind [] x y s e m = (s, subst⁻¹ (λ (z : ℕ). T (has z s)) (Option·some-injective x y e) m, at-once refl)
     node-behind (j ∷ word) x y s e m =
-        let a = bind-eq-some-iff (byAction (nextRows c) x j) (λ z. through (byAction (nextRows c)) z word) .0 e in
-        let b = action-elim (nextRows c) x j (a .0) (a .1) in
-        let k = node-behind word (a .0) y s (a .2) m in
-        let n = next-elim c x j (a .0) (k .0) (b .1) (k .1) in
+        let a = node-first (nextRows c) j word x y e in
+        let k = node-behind word (a .0) y s (a .3) m in
+        let n = next-elim c x j (a .0) (k .0) (a .2) (k .1) in
         let l = closed-elim c x (n .0) (n .1) in
-        (l .0, l .1, acts {r = l .0} {s = n .0} {t = k .0} j (b .0) (l .2) (n .2) (k .2))
+        (l .0, l .1, acts {r = l .0} {s = n .0} {t = k .0} j (a .1) (l .2) (n .2) (k .2))
 
     node-proper : (word : List ℕ) (x y : ℕ) → Proper c formed x → nodeAfter (nextRows c) x word ≡ some y → Proper c formed y
-    unfolding nodeAfter through
-    node-proper [] x y p e = subst (Proper c formed) (Option·some-injective x y e) p
-    node-proper (j ∷ word) x y p e =
-        let a = bind-eq-some-iff (byAction (nextRows c) x j) (λ z. through (byAction (nextRows c)) z word) .0 e in
-        let b = action-elim (nextRows c) x j (a .0) (a .1) in
-        node-proper word (a .0) y (next-proper c formed x j (a .0) (b .0) (b .1)) (a .2)
+    node-proper = node-keeps (nextRows c) (Proper c formed) (λ x y j h p e. next-proper c formed x j y h e)
 
     -- "the sets of rows directly behind the actions so far (at first row 0)"
     pub states-are-sets : StatesAreSets c

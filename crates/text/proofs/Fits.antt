@@ -3,7 +3,7 @@
 -- Assumes nothing.
 use mathlib.Core.Path.{_≡_, refl, sym, subst⁻¹}
 use mathlib.Core.Logic.{⊎-elim}
-use mathlib.Core.List.{_++_, List·Memᴰ, List·Memᴰ·head, List·Memᴰ·not-nil, List·Memᴰ·eq-of-singleton, List·Memᴰ·cases-cons, Memᴰ·append-left, Memᴰ·append-right, List·Memᴰ·append-cases}
+use mathlib.Core.List.{List, [], _∷_, _++_, List·Memᴰ, List·Memᴰ·head, List·Memᴰ·not-nil, List·Memᴰ·eq-of-singleton, List·Memᴰ·cases-cons, Memᴰ·append-left, Memᴰ·append-right, List·Memᴰ·append-cases}
 use Prim.Native.Nat.{ℕ, _+_, _<_, _^_}
 use lib.ListN.{length}
 use lib.Dec.{T}
@@ -118,31 +118,34 @@ within-fits : (scope : Scope) (v : ℕ) (s : Sense) → Fits s → ((x : ℕ) �
 within-fits scope v s f h x =
     ⊎-elim (λ e. subst⁻¹ Fits (within-same scope v s x e) f) (λ d. subst⁻¹ Fits (within-other scope v s x d) (h x)) (same-or-other v x)
 
+-- the places of two sides, and one behind them
+sides-fit : (a b : List Sense) (x s : Sense) → (List·Memᴰ s a → Fits s) → (List·Memᴰ s b → Fits s) → Fits x
+    → List·Memᴰ s (a ++ (b ++ (x ∷ []))) → Fits s
+sides-fit a b x s f g h m =
+    ⊎-elim f (λ i. ⊎-elim g (λ q. subst⁻¹ Fits (List·Memᴰ·eq-of-singleton q) h) (List·Memᴰ·append-cases b i)) (List·Memᴰ·append-cases a m)
+
 list-fits : (t : Term) (n : ℕ) (scope : Scope) → (Faulty t → ⊥) → ((v : ℕ) → Fits (scope v)) → (s : Sense)
     → List·Memᴰ s (sensesIn scope n t) → Fits s
 unfolding sensesIn
-list-fits end n scope f h s m = absurd (List·Memᴰ·not-nil m)
-list-fits (before j t) n scope f h s m =
-    ⊎-elim (list-fits t n scope (λ y. f (y-before j t y)) h s)
-    (λ i. subst⁻¹ Fits (List·Memᴰ·eq-of-singleton i) (part-fits (before j t) n scope f (λ v k. h v)))
-    (List·Memᴰ·append-cases (sensesIn scope n t) m)
-list-fits (plus t u) n scope f h s m =
-    ⊎-elim (list-fits t n scope (λ y. f (y-plus-left t u y)) h s)
-    (λ i. ⊎-elim (list-fits u (n + sizeOf t) scope (λ y. f (y-plus-right t u y)) h s)
-    (λ q. subst⁻¹ Fits (List·Memᴰ·eq-of-singleton q) (part-fits (plus t u) n scope f (λ v k. h v)))
-    (List·Memᴰ·append-cases (sensesIn scope (n + sizeOf t) u) i))
-    (List·Memᴰ·append-cases (sensesIn scope n t) m)
-list-fits (inner t u) n scope f h s m =
-    ⊎-elim (list-fits t n scope (λ y. f (y-inner-left t u y)) h s)
-    (λ i. ⊎-elim (list-fits u (n + sizeOf t) scope (λ y. f (y-inner-right t u y)) h s)
-    (λ q. subst⁻¹ Fits (List·Memᴰ·eq-of-singleton q) (part-fits (inner t u) n scope f (λ v k. h v)))
-    (List·Memᴰ·append-cases (sensesIn scope (n + sizeOf t) u) i))
-    (List·Memᴰ·append-cases (sensesIn scope n t) m)
-list-fits (loop v t) n scope f h s m =
+list-fits end n scope f h s = λ m. absurd (List·Memᴰ·not-nil m)
+list-fits (before j t) n scope f h s =
+    sides-fit (sensesIn scope n t) [] (senseIn scope n (before j t)) s (list-fits t n scope (λ y. f (y-before j t y)) h s)
+    (λ m. absurd (List·Memᴰ·not-nil m)) (before-fits j t n scope)
+list-fits (plus t u) n scope f h s =
+    sides-fit (sensesIn scope n t) (sensesIn scope (n + sizeOf t) u) (senseIn scope n (plus t u)) s
+    (list-fits t n scope (λ y. f (y-plus-left t u y)) h s)
+    (list-fits u (n + sizeOf t) scope (λ y. f (y-plus-right t u y)) h s)
+    (part-fits (plus t u) n scope f (λ v k. h v))
+list-fits (inner t u) n scope f h s =
+    sides-fit (sensesIn scope n t) (sensesIn scope (n + sizeOf t) u) (senseIn scope n (inner t u)) s
+    (list-fits t n scope (λ y. f (y-inner-left t u y)) h s)
+    (list-fits u (n + sizeOf t) scope (λ y. f (y-inner-right t u y)) h s)
+    (part-fits (inner t u) n scope f (λ v k. h v))
+list-fits (loop v t) n scope f h s =
     let own = senseIn scope n (loop v t) in
     list-fits t n (within scope v own) (λ y. f (y-loop v t y))
-    (within-fits scope v own (part-fits (loop v t) n scope f (λ x k. h x)) h) s m
-list-fits (name v) n scope f h s m = absurd (List·Memᴰ·not-nil m)
+    (within-fits scope v own (part-fits (loop v t) n scope f (λ x k. h x)) h) s
+list-fits (name v) n scope f h s = λ m. absurd (List·Memᴰ·not-nil m)
 
 -- the end is one of the list as well, and what variables mean before any has a meaning
 pub place-fits : (root : Term) → (Faulty root → ⊥) → (p : ℕ) → p < length (placesOf root) → Fits (senseAt (placesOf root) p)

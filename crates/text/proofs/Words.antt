@@ -3,21 +3,20 @@
 -- Assumes nothing.
 use mathlib.Core.Path.{_≡_, refl, sym, subst, subst⁻¹, _∙_}
 use mathlib.Core.Logic.{_↔_}
-use mathlib.Core.Option.{some, bind, bind-eq-some-iff, Option·some-injective}
+use mathlib.Core.Option.{some, Option·some-injective}
 use mathlib.Core.List.{List, [], _∷_}
 use Prim.Native.Nat.{ℕ, _<_, _^_}
 use native.Mathlib.Omega.{arith}
 use lib.Dec.{T, eqb}
-use borrow.Author.Tests.{lt-ltb}
 use Rattle.model.specs.Lists.{through}
 use Rattle.model.specs.Contract.{Contract, has}
 use Rattle.model.specs.Sheet.{good, readSheet}
 use Rattle.model.proofs.Rounds.{same-number}
 use Rattle.model.proofs.Masks.{has-power, power-has}
-use Rattle.nodes.specs.Words.{byAction, nodeAfter}
+use Rattle.nodes.specs.Words.{nodeAfter}
 use Rattle.nodes.specs.SheetBytes.{sheetBytes}
 use Rattle.nodes.specs.Transitions.{rests, Behind, at-once, acts, CanDo, SameBehind}
-use Rattle.nodes.proofs.Words.{action-elim}
+use Rattle.nodes.proofs.Words.{node-first, first-node, node-keeps}
 use Rattle.nodes.proofs.Behind.{made-behind}
 use Rattle.nodes.proofs.Made.{made-read-back}
 use Rattle.nodes.proofs.Transitions.{along-split, along-join}
@@ -35,12 +34,12 @@ module _ (root : Term) (shut : closed root) (sound : Faulty root → ⊥) (below
   -- the places that steps reach from those of a set are found in the set after it
   reaches-node : {word : List ℕ} {p q : ℕ} (x : ℕ) → Proper root shut sound below x → T (has x p) → Reaches (placesOf root) word p q
       → (y : ℕ) × (nodeAfter (nextPlaces (placesOf root)) x word ≡ some y) × T (has y q)
-  unfolding nodeAfter byAction through bind
+  unfolding nodeAfter through
   reaches-node x h t (here e) = (x, refl, subst (λ (z : ℕ). T (has x z)) e t)
   reaches-node {p = p} x h t (onwards {word = word} k small m r) =
       let n = next-intro (placesOf root) x p k (proper-inside root shut sound below x p h t) t m in
       let w = reaches-node (n .0) (next-proper root shut sound below x (k .action) (n .0) h (n .1)) (n .2) r in
-      (w .0, rw (lt-ltb (k .action) 14 small, n .1) (w .1), w .2)
+      (w .0, first-node (nextPlaces (placesOf root)) (k .action) word x (w .0) (n .0) small (n .1) (w .1), w .2)
 
   -- what is found is reached by steps from some place of the set
   node-reaches : (word : List ℕ) (x y q : ℕ) → nodeAfter (nextPlaces (placesOf root)) x word ≡ some y → T (has y q)
@@ -48,25 +47,20 @@ module _ (root : Term) (shut : closed root) (sound : Faulty root → ⊥) (below
   unfolding nodeAfter through
   node-reaches [] x y q e t = (q, subst⁻¹ (λ (z : ℕ). T (has z q)) (Option·some-injective x y e) t, here refl)
   node-reaches (j ∷ word) x y q e t =
-      let a = bind-eq-some-iff (byAction (nextPlaces (placesOf root)) x j) (λ z. through (byAction (nextPlaces (placesOf root))) z word) .0 e in
-      let b = action-elim (nextPlaces (placesOf root)) x j (a .0) (a .1) in
-      let w = node-reaches word (a .0) y q (a .2) t in
-      let n = next-elim (placesOf root) x j (a .0) (w .0) (b .1) (w .1) in (
+      let a = node-first (nextPlaces (placesOf root)) j word x y e in
+      let w = node-reaches word (a .0) y q (a .3) t in
+      let n = next-elim (placesOf root) x j (a .0) (w .0) (a .2) (w .1) in (
         n .0,
         n .2,
         subst (λ (i : ℕ). Reaches (placesOf root) (i ∷ word) (n .0) q) (n .4)
-            (onwards (n .1) (subst⁻¹ (λ (i : ℕ). i < 14) (n .4) (b .0)) (n .3)
+            (onwards (n .1) (subst⁻¹ (λ (i : ℕ). i < 14) (n .4) (a .1)) (n .3)
             (subst⁻¹ (λ (z : ℕ). Reaches (placesOf root) word z q) (n .5) (w .2))),
       )
 
   node-proper : (word : List ℕ) (x y : ℕ) → Proper root shut sound below x → nodeAfter (nextPlaces (placesOf root)) x word ≡ some y
       → Proper root shut sound below y
-  unfolding nodeAfter through
-  node-proper [] x y h e = subst (Proper root shut sound below) (Option·some-injective x y e) h
-  node-proper (j ∷ word) x y h e =
-      let a = bind-eq-some-iff (byAction (nextPlaces (placesOf root)) x j) (λ z. through (byAction (nextPlaces (placesOf root))) z word) .0 e in
-      let b = action-elim (nextPlaces (placesOf root)) x j (a .0) (a .1) in
-      node-proper word (a .0) y (next-proper root shut sound below x j (a .0) h (b .1)) (a .2)
+  node-proper =
+      node-keeps (nextPlaces (placesOf root)) (Proper root shut sound below) (λ x y j small h e. next-proper root shut sound below x j y h e)
 
   -- "the set of places directly behind the actions so far (at first the whole text)"
   pub states-are-sets : StatesAreSets root
