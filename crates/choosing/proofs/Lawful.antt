@@ -5,7 +5,7 @@ use mathlib.Core.Path.{_≡_, refl, subst, subst⁻¹, _∙_}
 use mathlib.Core.Bool.{Bool, true, false, cond}
 use mathlib.Core.Logic.{_⊎_, ⊎-elim}
 use mathlib.Core.Option.{none, some, Option·none-ne-some, Option·some-injective}
-use mathlib.Core.List.{List, List·Memᴰ, List·Memᴰ·head, List·Memᴰ·tail}
+use mathlib.Core.List.{List, List·Memᴰ}
 use Prim.Native.Nat.{ℕ, _<_}
 use native.Mathlib.Omega.{arith}
 use lib.ListN.{length, getD}
@@ -22,14 +22,9 @@ use Rattle.nodes.specs.Transitions.{Silently, rests, goes-on}
 use Rattle.choosing.specs.Transitions.{Hides, Does, Circle}
 use Rattle.nodes.specs.Sets.{setOf, gather}
 use Rattle.choosing.specs.Convert.{rowNumbers, leadsOf, rowsOfSet, closed, readySets, behindSet, nextRows}
-use Rattle.nodes.proofs.Sets.{any-is, any-when, unite-first, unite-intro, unite-elim, not-in-none, set-intro, set-elim, some-row-in, gather-intro, gather-elim, sorted-intro, sorted-elim, sorted-ascends}
+use Rattle.nodes.proofs.Sets.{any-is, any-when, unite-first, unite-intro, unite-elim, not-in-none, set-intro, set-elim, some-row-in, gather-intro, gather-elim, sorted-intro, sorted-elim, sorted-ascends, mem-some}
 use Rattle.choosing.proofs.Leads.{leads-intro, leads-elim, hider-within}
 use Rattle.choosing.proofs.Rows.{does-has, has-does, mask-bits, mask-named, row-formed, silently-within, does-within, rests-open}
-
--- an element has a place
-mem-some : {x : ℕ} {l : List ℕ} → List·Memᴰ x l → 0 < length l
-mem-some (List·Memᴰ·head {xs = l} e) = omega arith
-mem-some (List·Memᴰ·tail {xs = l} m) = omega arith
 
 module _ (c : Choosing) where
   row-of-set : (x r : ℕ) → r < length (c .rows) → T (has x r) → List·Memᴰ r (rowsOfSet c x)

@@ -1,29 +1,26 @@
 -- What each number of converting says, over bytes: what is read is of the right form, and what has that form is read; then circles, numbers
 -- of states and ready sets, and the lent output, in that order.
 -- Assumes nothing.
-use mathlib.Core.Path.{_≡_, refl, sym, ap, subst, subst⁻¹, _∙_}
-use mathlib.Core.Bool.{Bool, true, false, not, cond}
-use mathlib.Core.Logic.{_⊎_, inl, inr, ⊎-elim}
+use mathlib.Core.Path.{_≡_, refl, sym, ap, subst⁻¹, _∙_}
+use mathlib.Core.Bool.{Bool, not}
+use mathlib.Core.Logic.{inl, inr, ⊎-elim}
 use mathlib.Core.List.{List}
 use Prim.Native.Nat.{ℕ, _<_}
-use lib.ListN.{length, take, drop}
-use lib.Seq.{take-append-seam, drop-append-seam}
-use lib.Dec.{T, eqb, leb, not-T}
-use borrow.Author.Tests.{leb-false}
-use Rattle.model.specs.Lists.{all}
+use lib.Dec.{T, eqb, not-T}
 use Rattle.model.specs.Bytes.{byte}
 use Rattle.model.specs.Contract.{Contract}
-use Rattle.model.specs.Sheet.{Reading, good, refusal, check, then, Refusal, plain, Fault, Sheet, sheetOf, contractIn}
+use Rattle.model.specs.Sheet.{Reading, good, refusal, check, then, Refusal, plain}
 use Rattle.model.proofs.Lists.{is-true, dec-T}
 use Rattle.model.proofs.Rounds.{same-number}
 use Rattle.model.proofs.Sheet.{never-good}
 use Rattle.model.proofs.Refusals.{OnlyRefused, only-check, only-then}
-use Rattle.little_endian.specs.Front.{front}
-use Rattle.nodes.specs.Nodes.{isNone, nodesFound, few, contractWith, contractOf, Says}
+use Rattle.nodes.specs.Nodes.{contractWith, contractOf, Says}
 use Rattle.nodes.specs.SheetBytes.{sheetBytes}
-use Rattle.nodes.specs.Answer.{Written, written}
+use Rattle.nodes.specs.Answer.{written}
 use Rattle.nodes.proofs.Nodes.{contract-nodes}
-use Rattle.nodes.proofs.Refused.{contract-says}
+use Rattle.nodes.proofs.Refused.{made-says, contract-only}
+use Rattle.nodes.proofs.Made.{made-in}
+use Rattle.nodes.proofs.Outcome.{written-good, written-beyond, written-refused, written-only}
 use Rattle.choosing.specs.Rows.{Choosing}
 use Rattle.nodes.specs.Transitions.{SameBehind}
 use Rattle.choosing.specs.Transitions.{Hides, Does, Circle}
@@ -31,6 +28,7 @@ use Rattle.choosing.specs.Read.{readChoosing}
 use Rattle.choosing.specs.Convert.{circle, readySets, nextRows, convertOf, convertSheet, convertInto}
 use Rattle.choosing.specs.Promises.{IsChoosing, Converted, IsCalm, NumberSays, Converting}
 use Rattle.choosing.proofs.Leads.{circle-found, circle-real}
+use Rattle.choosing.proofs.Lawful.{sets-lawful}
 use Rattle.choosing.proofs.Words.{states-are-sets, ready-are-sets, same-behind, made-sheet}
 use Rattle.choosing.proofs.Read.{read-formed, read-refused}
 use Rattle.choosing.proofs.Written.{choosing-read-back}
@@ -51,14 +49,14 @@ module _ (b : List ℕ) (small : (i : ℕ) → byte b i < 256) (c : Choosing) (i
     -- the sheet of the contract that is made of its sets
     sheet-converted : (made : Contract) → contractOf eqb (nextRows c) (readySets c) (c .n) 1 ≡ good made
         → Converted b (sheetBytes (c .n) 0 (made .states))
-    unfolding contractIn sheetOf contractWith
+    unfolding contractWith
     sheet-converted made is-made =
         let formed = read-formed b small c is in
         let back = made-sheet c formed calm made is-made in
-        let whole : contractIn (sheetBytes (c .n) 0 (made .states)) ≡ made = ap (λ (r : Reading Fault Sheet). sheetOf r .contract) back in
+        let whole = made-in eqb same-number (nextRows c) (readySets c) 1 (c .n) (sets-lawful c formed calm) (formed .few-names) made is-made in
         let nodes = contract-nodes eqb same-number (nextRows c) (readySets c) 1 (c .n) made is-made in
         let says : Says (nextRows c) (readySets c) 1 (good made) =
-        subst (Says (nextRows c) (readySets c) 1) is-made (contract-says eqb same-number (nextRows c) (readySets c) 1 (c .n)) in
+        made-says eqb same-number (nextRows c) (readySets c) 1 (c .n) (good made) is-made in
         record {
           calm = calm-sheet;
           is-sheet = back ∙ ap (λ (d : Contract). good (record { contract = d; role = 0 })) (sym whole);
@@ -109,7 +107,7 @@ module _ (b out : List ℕ) where
           let number = refused-number e (sets-decide ∙ rw made refl) in
           let sheet = calm-sheet b small c is calm in
           let says : Says (nextRows c) (readySets c) 1 (refusal e) =
-          subst (Says (nextRows c) (readySets c) 1) made (contract-says eqb same-number (nextRows c) (readySets c) 1 (c .n)) in
+          made-says eqb same-number (nextRows c) (readySets c) 1 (c .n) (refusal e) made in
           inr (inr (inr (inr (⊎-elim
           (λ w. inl (number ∙ ap (λ (r : Refusal). r .number) (w .0), sheet, w .1))
           (λ w. inr (number ∙ ap (λ (r : Refusal). r .number) (w .0), sheet, w .1, w .2))
@@ -117,30 +115,12 @@ module _ (b out : List ℕ) where
 
       -- 0 and 13
       says-made : (made : Contract) → contractOf eqb (nextRows c) (readySets c) (c .n) 1 ≡ good made → NumberSays b out (convertInto b out)
-      unfolding convertInto written then front
-      says-made made is-made = go (leb (length bytes) (length out)) refl
-        where
-          bytes : List ℕ
-          bytes = sheetBytes (c .n) 0 (made .states)
-
-          go : (t : Bool) → leb (length bytes) (length out) ≡ t → NumberSays b out (convertInto b out)
-          go true e =
-              let w : convertInto b out ≡ record { number = 0; sheet = 0; state = 0; length = length bytes; output = front bytes out } =
-              rw (sets-decide, is-made, e) refl in
-              inl (
-                ap (λ (o : Written). o .number) w,
-                subst⁻¹ (λ (o : Written). Converted b (take (o .length) (o .output))) w
-                    (subst⁻¹ (Converted b) (take-append-seam bytes _) (sheet-converted b small c is calm made is-made)),
-              )
-          go false e =
-              let w : convertInto b out ≡ record { number = 13; sheet = 0; state = 0; length = 0; output = out } =
-              rw (sets-decide, is-made, e) refl in
-              inr (inl (
-                ap (λ (o : Written). o .number) w,
-                bytes,
-                sheet-converted b small c is calm made is-made,
-                leb-false (length bytes) (length out) e,
-              ))
+      unfolding convertInto then
+      says-made made is-made =
+          let bytes = sheetBytes (c .n) 0 (made .states) in
+          let is-good : convertSheet b ≡ good bytes = sets-decide ∙ rw is-made refl in
+          subst⁻¹ (λ (r : Reading Refusal (List ℕ)). NumberSays b out (written out r)) is-good
+          (⊎-elim inl (λ w. inr (inl w)) (written-good bytes out (Converted b) (sheet-converted b small c is calm made is-made)))
 
       says-sets : NumberSays b out (convertInto b out)
       says-sets = go (contractOf eqb (nextRows c) (readySets c) (c .n) 1) refl
@@ -160,66 +140,18 @@ module _ (b out : List ℕ) where
 
 -- ---- the lent output
 
--- a refusal leaves it, and bytes that are written leave what lies beyond them
-written-beyond : (out : List ℕ) (r : Reading Refusal (List ℕ))
-    → drop (written out r .length) (written out r .output) ≡ drop (written out r .length) out
-unfolding written front
-written-beyond out (refusal e) = refl
-written-beyond out (good bytes) = go (leb (length bytes) (length out))
-  where
-    lies : Written → Type 0
-    lies o = drop (o .length) (o .output) ≡ drop (o .length) out
-
-    go : (t : Bool)
-        → lies (cond t (record { number = 0; sheet = 0; state = 0; length = length bytes; output = front bytes out })
-        (record { number = 13; sheet = 0; state = 0; length = 0; output = out }))
-    go true = drop-append-seam bytes (drop (length bytes) out)
-    go false = refl
-
-written-refused : (out : List ℕ) (r : Reading Refusal (List ℕ)) → (written out r .number ≡ 0 → ⊥)
-    → (written out r .length ≡ 0) × (written out r .output ≡ out)
-unfolding written
-written-refused out (refusal e) ne = (refl, refl)
-written-refused out (good bytes) ne = go (leb (length bytes) (length out)) ne
-  where
-    whole : Written
-    whole = record { number = 0; sheet = 0; state = 0; length = length bytes; output = front bytes out }
-
-    short : Written
-    short = record { number = 13; sheet = 0; state = 0; length = 0; output = out }
-
-    go : (t : Bool) → (cond t whole short .number ≡ 0 → ⊥) → (cond t whole short .length ≡ 0) × (cond t whole short .output ≡ out)
-    go true ne = absurd (ne refl)
-    go false ne = (refl, refl)
-
 -- the refusals of converting carry no sheet and no state
 abbrev Plain : Refusal → Type 0
 Plain e = (e .sheet ≡ 0) × (e .state ≡ 0)
 
-written-plain : (out : List ℕ) (r : Reading Refusal (List ℕ)) → OnlyRefused Plain r
-    → (written out r .sheet ≡ 0) × (written out r .state ≡ 0)
-unfolding written
-written-plain out (refusal e) p = p
-written-plain out (good bytes) p = go (leb (length bytes) (length out))
-  where
-    plainly : Written → Type 0
-    plainly o = (o .sheet ≡ 0) × (o .state ≡ 0)
-
-    go : (t : Bool)
-        → plainly (cond t (record { number = 0; sheet = 0; state = 0; length = length bytes; output = front bytes out })
-        (record { number = 13; sheet = 0; state = 0; length = 0; output = out }))
-    go true = (refl, refl)
-    go false = (refl, refl)
-
 sheet-plain : (b : List ℕ) → OnlyRefused Plain (convertSheet b)
-unfolding convertSheet convertOf contractOf plain
+unfolding convertSheet convertOf plain
 sheet-plain b =
     only-then Plain (readChoosing b) _ (read-plain (readChoosing b) (read-refused b))
     (λ c.
     only-then Plain (convertOf c) _
     (only-check Plain (not (circle c)) (plain 18 0) _ (refl, refl)
-    (only-check Plain (isNone (nodesFound eqb (nextRows c) 1 .todo)) (plain 19 0) _ (refl, refl)
-    (only-check Plain (all (few (readySets c)) (nodesFound eqb (nextRows c) 1 .done)) (plain 20 0) _ (refl, refl) tt)))
+    (contract-only eqb same-number (nextRows c) (readySets c) 1 Plain (c .n) (refl, refl) (refl, refl)))
     (λ made. tt))
   where
     read-plain : (r : Reading Refusal Choosing) → ((e : Refusal) → r ≡ refusal e → e ≡ plain 17 0) → OnlyRefused Plain r
@@ -230,7 +162,8 @@ sheet-plain b =
 pub converting : Converting
 unfolding convertInto
 converting b out small =
-    let carries = written-plain out (convertSheet b) (sheet-plain b) in
+    let carries =
+    written-only out (λ (number sheet state : ℕ). (sheet ≡ 0) × (state ≡ 0)) (refl, refl) (refl, refl) (convertSheet b) (sheet-plain b) in
     record {
       number-says = number-says b out small;
       no-sheet = carries .0;

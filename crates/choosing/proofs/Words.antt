@@ -1,47 +1,43 @@
 -- For every sequence of actions the contract that is converted to and the rows have the same ready sets, and can do the same: by induction
 -- on the word, the set behind it holds exactly the rows directly behind it.
 -- Assumes nothing.
-use mathlib.Core.Path.{_≡_, refl, sym, ap, subst, subst⁻¹, _∙_}
-use mathlib.Core.Option.{Option, some, bind, Option·map, map-eq-some-iff, bind-eq-some-iff, Option·some-injective}
-use mathlib.Core.List.{List, [], _∷_, List·Memᴰ}
-use Prim.Native.Nat.{ℕ, _<_}
-use lib.Dec.{T, eqb, ltb, ltb→lt}
-use borrow.Author.Tests.{lt-ltb}
+use mathlib.Core.Path.{_≡_, refl, sym, subst, subst⁻¹, _∙_}
+use mathlib.Core.Logic.{_↔_}
+use mathlib.Core.Option.{some, Option·some-injective}
+use mathlib.Core.List.{List, [], _∷_}
+use Prim.Native.Nat.{ℕ}
+use lib.Dec.{T, eqb}
 use Rattle.model.specs.Lists.{through}
 use Rattle.model.specs.Contract.{Contract, has}
 use Rattle.model.specs.Sheet.{good, readSheet}
-use Rattle.model.proofs.Lists.{cond-some}
 use Rattle.model.proofs.Rounds.{same-number}
 use Rattle.model.proofs.Masks.{has-power, power-has}
 use Rattle.nodes.specs.Nodes.{contractOf}
-use Rattle.nodes.specs.Words.{byAction, nodeAfter, readyAfter, nodesReady}
+use Rattle.nodes.specs.Words.{nodeAfter}
 use Rattle.nodes.specs.SheetBytes.{sheetBytes}
-use Rattle.nodes.proofs.Words.{made-ready}
+use Rattle.nodes.proofs.Words.{node-first, first-node, node-keeps}
+use Rattle.nodes.proofs.Behind.{made-behind}
 use Rattle.nodes.proofs.Made.{made-read-back}
 use Rattle.nodes.proofs.Transitions.{along-split, along-join}
 use Rattle.choosing.specs.Rows.{Choosing, Formed}
-use Rattle.nodes.specs.Transitions.{rests, Along, Behind, at-once, acts, SameBehind}
+use Rattle.nodes.specs.Transitions.{rests, Behind, at-once, acts, CanDo, SameBehind}
 use Rattle.choosing.specs.Transitions.{Hides, Does, Circle}
 use Rattle.choosing.specs.Convert.{readySets, nextRows}
 use Rattle.choosing.specs.Promises.{StatesAreSets, ReadyAreSets}
 use Rattle.choosing.proofs.Rows.{silently-within, mask-initial, initial-mask}
 use Rattle.choosing.proofs.Lawful.{Proper, start-proper, next-proper, closed-intro, closed-elim, ready-intro, ready-elim, next-elim, next-intro, sets-lawful}
 
-action-elim : {N : Type 0} (next : N → ℕ → Option N) (x : N) (j : ℕ) (y : N) → byAction next x j ≡ some y → (j < 14) × (next x j ≡ some y)
-unfolding byAction
-action-elim next x j y e = let w = cond-some (ltb j 14) (next x j) y e in (ltb→lt j 14 (w .0), w .1)
-
 module _ (c : Choosing) where
   module _ (formed : Formed c) where
     -- the rows directly behind those of a set are found in the set after it
     behind-node : {word : List ℕ} {r s : ℕ} (x : ℕ) → Proper c formed x → T (has x r) → Behind (Hides c) (Does c) word r s
         → (y : ℕ) × (nodeAfter (nextRows c) x word ≡ some y) × T (has y s)
-    unfolding nodeAfter byAction through bind
+    unfolding nodeAfter through
     behind-node x p m (at-once e) = (x, refl, subst (λ (z : ℕ). T (has x z)) e m)
     behind-node {r = r} x p m (acts {word = word} {s = s} {t = v} j h w d g) =
         let n = next-intro c x j s v (silently-within c formed (p .inside r m) w) (closed-intro c x r s m w) d in
         let k = behind-node (n .0) (next-proper c formed x j (n .0) h (n .1)) (n .2) g in
-        (k .0, rw (lt-ltb j 14 h, n .1) (k .1), k .2)
+        (k .0, first-node (nextRows c) j word x (k .0) (n .0) h (n .1) (k .1), k .2)
 
     -- what is found is directly behind some row of the set, and a proper set
     node-behind : (word : List ℕ) (x y s : ℕ) → nodeAfter (nextRows c) x word ≡ some y → T (has y s)
@@ -49,20 +45,14 @@ module _ (c : Choosing) where
     unfolding nodeAfter through
     node-behind [] x y s e m = (s, subst⁻¹ (λ (z : ℕ). T (has z s)) (Option·some-injective x y e) m, at-once refl)
     node-behind (j ∷ word) x y s e m =
-        let a = bind-eq-some-iff (byAction (nextRows c) x j) (λ z. through (byAction (nextRows c)) z word) .0 e in
-        let b = action-elim (nextRows c) x j (a .0) (a .1) in
-        let k = node-behind word (a .0) y s (a .2) m in
-        let n = next-elim c x j (a .0) (k .0) (b .1) (k .1) in
+        let a = node-first (nextRows c) j word x y e in
+        let k = node-behind word (a .0) y s (a .3) m in
+        let n = next-elim c x j (a .0) (k .0) (a .2) (k .1) in
         let l = closed-elim c x (n .0) (n .1) in
-        (l .0, l .1, acts {r = l .0} {s = n .0} {t = k .0} j (b .0) (l .2) (n .2) (k .2))
+        (l .0, l .1, acts {r = l .0} {s = n .0} {t = k .0} j (a .1) (l .2) (n .2) (k .2))
 
     node-proper : (word : List ℕ) (x y : ℕ) → Proper c formed x → nodeAfter (nextRows c) x word ≡ some y → Proper c formed y
-    unfolding nodeAfter through
-    node-proper [] x y p e = subst (Proper c formed) (Option·some-injective x y e) p
-    node-proper (j ∷ word) x y p e =
-        let a = bind-eq-some-iff (byAction (nextRows c) x j) (λ z. through (byAction (nextRows c)) z word) .0 e in
-        let b = action-elim (nextRows c) x j (a .0) (a .1) in
-        node-proper word (a .0) y (next-proper c formed x j (a .0) (b .0) (b .1)) (a .2)
+    node-proper = node-keeps (nextRows c) (Proper c formed) (λ x y j h p e. next-proper c formed x j y h e)
 
     -- "the sets of rows directly behind the actions so far (at first row 0)"
     pub states-are-sets : StatesAreSets c
@@ -90,45 +80,21 @@ module _ (c : Choosing) where
           (initial-mask c formed (w .0) R (w .2) (w .3))),
     )
 
-    -- the set behind a word that the rows can do
-    set-behind : (word : List ℕ) (s : ℕ) → Along (Hides c) (Does c) word 0 s → (x : ℕ) × (nodeAfter (nextRows c) 1 word ≡ some x)
-    set-behind word s g = let k = along-split (Hides c) (Does c) g in let w = states-are-sets word (k .0) .1 (k .1) in (w .0, w .1)
+    -- there is a set behind a word exactly if the rows can do it
+    can-are-sets : (word : List ℕ) → ((x : ℕ) × (nodeAfter (nextRows c) 1 word ≡ some x)) ↔ CanDo (Hides c) (Does c) 0 word
+    can-are-sets word = (
+      (λ w.
+          let k = node-proper word 1 (w .0) (start-proper c formed) (w .1) .some-row in
+          (k .0, along-join (Hides c) (Does c) (states-are-sets word (k .0) .0 (w .0, w .1, k .1)) (rests refl))),
+      (λ w. let k = along-split (Hides c) (Does c) (w .1) in let v = states-are-sets word (k .0) .1 (k .1) in (v .0, v .1)),
+    )
 
     module _ (calm : Circle c → ⊥) (made : Contract) (is-made : contractOf eqb (nextRows c) (readySets c) (c .n) 1 ≡ good made) where
-      -- the ready sets of the contract are those of the sets of rows
-      is-node : (word : List ℕ) → readyAfter made word ≡ Option·map (readySets c) (nodeAfter (nextRows c) 1 word)
-      unfolding nodesReady
-      is-node word =
-          made-ready eqb same-number (nextRows c) (readySets c) 1 (c .n) (sets-lawful c formed calm) made is-made word
-
-      -- the set of rows behind a word that the contract can do
-      node-of : (word l : List ℕ) → readyAfter made word ≡ some l → (x : ℕ) × (nodeAfter (nextRows c) 1 word ≡ some x) × (readySets c x ≡ l)
-      node-of word l e = map-eq-some-iff (readySets c) (nodeAfter (nextRows c) 1 word) .0 (sym (is-node word) ∙ e)
-
-      -- and back
-      of-node : (word : List ℕ) (x : ℕ) → nodeAfter (nextRows c) 1 word ≡ some x → readyAfter made word ≡ some (readySets c x)
-      of-node word x e = is-node word ∙ ap (Option·map (readySets c)) e
-
       -- "for every sequence of actions both have the same ready sets"
       pub same-behind : (word : List ℕ) → SameBehind (Hides c) (Does c) 0 made word
-      same-behind word =
-          record {
-            same-ready = λ R. (
-              (λ w.
-                  let v = node-of word (w .0) (w .1) in
-                  ready-are-sets word (v .0) (v .1) R .0 (subst⁻¹ (List·Memᴰ R) (v .2) (w .2))),
-              (λ w.
-                  let v = set-behind word (w .0) (w .1) in
-                  (readySets c (v .0), of-node word (v .0) (v .1), ready-are-sets word (v .0) (v .1) R .1 w)),
-            );
-            same-can = (
-              (λ w.
-                  let v = node-of word (w .0) (w .1) in
-                  let k = node-proper word 1 (v .0) (start-proper c formed) (v .1) .some-row in
-                  (k .0, along-join (Hides c) (Does c) (states-are-sets word (k .0) .0 (v .0, v .1, k .1)) (rests refl))),
-              (λ w. let v = set-behind word (w .0) (w .1) in (readySets c (v .0), of-node word (v .0) (v .1))),
-            );
-          }
+      same-behind =
+          made-behind eqb same-number (nextRows c) (readySets c) 1 (c .n) (sets-lawful c formed calm) made is-made (Hides c) (Does c) 0
+          ready-are-sets can-are-sets
 
       -- the sheet of the contract reads back as it
       pub made-sheet : readSheet (sheetBytes (c .n) 0 (made .states)) ≡ good (record { contract = made; role = 0 })

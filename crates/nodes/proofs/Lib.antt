@@ -2,12 +2,14 @@ pub mod Nodes
 pub mod Sets
 pub mod Transitions
 pub mod Words
+pub mod Behind
 pub mod Bytes
 pub mod Standing
 pub mod Parts
 pub mod Sheets
 pub mod Made
 pub mod Refused
+pub mod Outcome
 pub mod Noting
 pub mod Filled
 pub mod Writing

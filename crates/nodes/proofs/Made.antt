@@ -12,7 +12,7 @@ use lib.Dec.{T, eqb, leb, leb→le, not-T}
 use borrow.Author.Tests.{ne-eqb, not-true}
 use Rattle.model.specs.Lists.{any, keep, place}
 use Rattle.model.specs.Contract.{Contract, State, actions, name, has, offersIn}
-use Rattle.model.specs.Sheet.{good, strayBit, readSheet}
+use Rattle.model.specs.Sheet.{Reading, Fault, Sheet, good, strayBit, readSheet, sheetOf, contractIn}
 use Rattle.model.proofs.Lists.{is-true, and-both, any-elim, any-intro, keep-elim}
 use Rattle.model.proofs.Rounds.{IsSame}
 use Rattle.model.proofs.Actions.{action-below}
@@ -82,3 +82,8 @@ module _ {N : Type 0} (same : N → N → Bool) (isSame : IsSame same) (next : N
       subst (λ (s : State). Writable n 0 (length (map (stateOf same next ready nodes) nodes)) s) (v .2)
       (subst⁻¹ (λ (k : ℕ). Writable n 0 k (stateOf same next ready nodes (v .0))) size
       (state-writable (w .1) (v .0) (v .1) (w .2 (v .0) (v .1))))))
+
+  -- so it is the contract in the sheet
+  pub made-in : n ≤ 7 → (c : Contract) → contractOf same next ready n start ≡ good c → contractIn (sheetBytes n 0 (c .states)) ≡ c
+  unfolding contractIn sheetOf
+  made-in small c e = ap (λ (r : Reading Fault Sheet). sheetOf r .contract) (made-read-back small c e)

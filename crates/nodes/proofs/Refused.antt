@@ -11,11 +11,12 @@ use native.Mathlib.Omega.{arith}
 use lib.ListN.{length, length-append}
 use lib.Dec.{T, leb, leb→le, nleb→lt, not-T}
 use Rattle.model.specs.Lists.{all}
-use Rattle.model.specs.Contract.{actions}
+use Rattle.model.specs.Contract.{Contract, actions}
 use Rattle.model.specs.Search.{Reached, Search}
-use Rattle.model.specs.Sheet.{good, check, plain}
+use Rattle.model.specs.Sheet.{Reading, Refusal, good, check, plain}
 use Rattle.model.proofs.Lists.{all-elim, all-fails}
 use Rattle.model.proofs.Rounds.{IsSame}
+use Rattle.model.proofs.Refusals.{OnlyRefused, only-check}
 use Rattle.model.proofs.Search.{Inv, search-inv, search-all, search-cut}
 use Rattle.nodes.specs.Nodes.{isNone, nodesFound, few, contractWith, contractOf, TooMany, FewReached, Says}
 use Rattle.nodes.proofs.Nodes.{node-reached, few-nodes}
@@ -74,3 +75,13 @@ module _ {N : Type 0} (same : N → N → Bool) (isSame : IsSame same) (next : N
           (check (all (few ready) (run .done)) (plain 20 0) (good (contractWith same next ready n (run .done)))))
       at-todo [] e = at-few (all (few ready) (run .done)) refl e
       at-todo (x ∷ l) e = inl (refl, too-many x l e)
+
+  -- what was made was made where it should be
+  pub made-says : (n : ℕ) (r : Reading Refusal Contract) → contractOf same next ready n start ≡ r → Says next ready start r
+  made-says n r e = subst (Says next ready start) e (contract-says n)
+
+  -- 19 and 20 carry nothing
+  pub contract-only : (P : Refusal → Type 0) (n : ℕ) → P (plain 19 0) → P (plain 20 0) → OnlyRefused P (contractOf same next ready n start)
+  unfolding contractOf
+  contract-only P n many wide =
+      only-check P (isNone (run .todo)) (plain 19 0) _ many (only-check P (all (few ready) (run .done)) (plain 20 0) _ wide tt)

@@ -3,20 +3,46 @@
 -- Assumes nothing.
 use mathlib.Core.Path.{_≡_, refl, sym, ap, subst, subst⁻¹, _∙_}
 use mathlib.Core.Bool.{Bool, true, false, cond}
-use mathlib.Core.Option.{Option, none, some, bind, Option·map, Option·none-ne-some}
+use mathlib.Core.Option.{Option, none, some, bind, bind-eq-some-iff, Option·map, Option·none-ne-some, Option·some-injective}
 use mathlib.Core.List.{List, [], _∷_, List·Memᴰ}
 use Prim.Native.Nat.{ℕ, _<_}
 use lib.ListN.{getElem?}
-use lib.Dec.{T, ltb}
-use borrow.Author.Tests.{ltb-true}
+use lib.Dec.{T, ltb, ltb→lt}
+use borrow.Author.Tests.{ltb-true, lt-ltb}
 use Rattle.model.specs.Lists.{through}
 use Rattle.model.specs.Contract.{Contract, State, state, offers, offersIn, after}
 use Rattle.model.specs.Sheet.{good}
+use Rattle.model.proofs.Lists.{cond-some}
 use Rattle.model.proofs.Rounds.{IsSame}
 use Rattle.model.proofs.PlanRows.{at-mem}
 use Rattle.nodes.specs.Nodes.{Lawful, nodesFound, stateOf, contractWith, contractOf}
 use Rattle.nodes.specs.Words.{byAction, nodeAfter, goesOn, stateAfter, readyAfter, nodesReady}
 use Rattle.nodes.proofs.Nodes.{contract-nodes, start-first, node-reached, state-is, after-node}
+
+module _ {N : Type 0} (next : N → ℕ → Option N) where
+  -- a word that was done: its first action, which is one of the fourteen, and the others from where it led
+  pub node-first : (j : ℕ) (word : List ℕ) (x y : N) → nodeAfter next x (j ∷ word) ≡ some y
+      → (z : N) × (j < 14) × (next x j ≡ some z) × (nodeAfter next z word ≡ some y)
+  unfolding nodeAfter through byAction
+  node-first j word x y e =
+      let a = bind-eq-some-iff (byAction next x j) (λ z. through (byAction next) z word) .0 e in
+      let b = cond-some (ltb j 14) (next x j) (a .0) (a .1) in
+      (a .0, ltb→lt j 14 (b .0), b .1, a .2)
+
+  -- and such a word can be done
+  pub first-node : (j : ℕ) (word : List ℕ) (x y z : N) → j < 14 → next x j ≡ some z → nodeAfter next z word ≡ some y
+      → nodeAfter next x (j ∷ word) ≡ some y
+  unfolding nodeAfter through byAction bind
+  first-node j word x y z h e r = rw (lt-ltb j 14 h, e) r
+
+  -- what every action keeps, every word keeps
+  pub node-keeps : (P : N → Type 0) → ((x y : N) (j : ℕ) → j < 14 → P x → next x j ≡ some y → P y) → (word : List ℕ) (x y : N) → P x
+      → nodeAfter next x word ≡ some y → P y
+  unfolding nodeAfter through
+  node-keeps P keeps [] x y p e = subst P (Option·some-injective x y e) p
+  node-keeps P keeps (j ∷ word) x y p e =
+      let a = node-first j word x y e in
+      node-keeps P keeps word (a .0) y (keeps x (a .0) j (a .1) p (a .2)) (a .3)
 
 module _ {N : Type 0} (same : N → N → Bool) (isSame : IsSame same) (next : N → ℕ → Option N) (ready : N → List ℕ) (start : N) (n : ℕ)
     (lawful : Lawful n next ready start) (ended : nodesFound same next start .todo ≡ []) where

@@ -8,5 +8,10 @@ pub mod Substitution
 pub mod Moves
 pub mod Senses
 pub mod Stands
+pub mod Fits
+pub mod Lawful
 pub mod Words
 pub mod Cases
+pub mod Read
+pub mod Says
+pub mod Faults
