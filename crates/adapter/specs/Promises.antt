@@ -32,7 +32,7 @@ use Rattle.edits.specs.Promises.{rankOf}
 use Rattle.nodes.specs.declared.SheetAnswer as nodes
 use Rattle.choosing.specs.Convert.{convertInto}
 use Rattle.choosing.specs.Promises.{ConvertingSays}
-use Rattle.convert.specs.Answer.{writtenBy}
+use Rattle.nodes.specs.Answer.{writtenBy}
 
 -- what holds of a plan's bytes, for a list of attempts with a client
 pub record RunsByAnswers (k : ℕ) (client old : List ℕ) (user new : Contract) (bytes : List ℕ) (attempts : List Attempt) : Type 0 where

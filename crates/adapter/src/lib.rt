@@ -12,7 +12,7 @@ ghost use Rattle.connect.specs.Answers.{answerOf};
 ghost use Rattle.edits.specs.Check.{checkPlanOf, planFaultOf};
 ghost use Rattle.edits_walk.specs.Faults.{faultBy};
 ghost use Rattle.choosing.specs.Convert.{convertInto};
-ghost use Rattle.convert.specs.Answer.{writtenBy};
+ghost use Rattle.nodes.specs.Answer.{writtenBy};
 ghost use Rattle.named_row.specs.Row.{rowPartOf, rowRefusalOf};
 ghost use Rattle.named_row.specs.Answers.{partOf, refusalOf};
 use comply::Compliance;

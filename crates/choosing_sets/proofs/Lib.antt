@@ -1,4 +1,3 @@
-pub mod Ranges
 pub mod Replacing
 pub mod Leads
 pub mod RowsOf

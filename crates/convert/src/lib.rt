@@ -2,12 +2,11 @@
 ghost use mathlib.Core.Path.{_≡_};
 ghost use Rattle.choosing.specs.Convert.{convertInto};
 ghost use Rattle.convert.specs.Sets.{RowTables, convertFrom};
-ghost use Rattle.convert.specs.Answer.{writtenBy};
+ghost use Rattle.nodes.specs.Answer.{writtenBy};
 
 mod sets;
 
 use nodes::SheetAnswer;
-use sets::all_few;
 use sets::find;
 
 // "1 to 32 rows".
@@ -18,18 +17,6 @@ const STATES: usize = 64;
 
 // Hints where a set of rows was found last, one for each bucket of sets.
 const HINTS: usize = 256;
-
-// A refusal: it carries no sheet and no state, and nothing is written.
-fn refused(number: u8) -> SheetAnswer
-    ensures { λ r. ⌜ r ≡ record { number = number; sheet = 0; state = 0; length = 0 } ⌝ }
-{
-    SheetAnswer {
-        number: number,
-        sheet: 0,
-        state: 0,
-        length: 0,
-    }
-}
 
 // The sheet of `count` rows over n names, at the front of the lent output, or refusal 19, 20 or 13. The tables hold for each row the rows
 // that it leads to by itself and those that each action leads to, and the masks in order, each with the rows that have it.
@@ -63,13 +50,7 @@ fn convert_rows(
         &mut ready,
         &mut next,
     );
-    if STATES < known {
-        return refused(19);
-    }
-    if !all_few(&sizes, known) {
-        return refused(20);
-    }
-    nodes::write_sheet(&sizes, &ready, &next, known as u8, n, sheet)
+    nodes::found::write_found(&sizes, &ready, &next, known, n, sheet)
 }
 
 // The ordinary sheet that means the same as a choosing sheet, at the front of the lent output: its length, or refusal 17, 18, 19, 20 or 13,
@@ -81,13 +62,13 @@ pub fn convert(choosing: &[u8], sheet: &mut [u8]) -> SheetAnswer
     let mut masks = [0u16; ROWS];
     let mut targets = [0u32; 14 * ROWS];
     if !choosing_rows::read_rows(choosing, &mut hidden, &mut masks, &mut targets) {
-        return refused(17);
+        return nodes::found::refused(17);
     }
     let trailer = sheet::parts::read_trailer(choosing);
     let count = trailer.count as usize;
     choosing_sets::lead(&mut hidden, count);
     if choosing_sets::has_circle(&hidden, count) {
-        return refused(18);
+        return nodes::found::refused(18);
     }
     let mut ranked = [0u16; ROWS];
     let mut holders = [0u32; ROWS];

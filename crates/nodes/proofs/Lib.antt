@@ -1,4 +1,5 @@
 pub mod Nodes
+pub mod Ranges
 pub mod Sets
 pub mod Transitions
 pub mod Words
@@ -15,3 +16,4 @@ pub mod Filled
 pub mod Writing
 pub mod Tables
 pub mod Answers
+pub mod Answering

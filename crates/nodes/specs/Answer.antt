@@ -7,6 +7,7 @@ use lib.ListN.{length}
 use lib.Dec.{leb}
 use Rattle.model.specs.Sheet.{Reading, Refusal, good, refusal}
 use Rattle.little_endian.specs.Front.{front}
+use Rattle.nodes.specs.declared.SheetAnswer.{SheetAnswer}
 
 -- What a converter answers and leaves in the lent output: the number, sheet and state of a refusal, each 0 where there is none; the length
 -- of what was written, on a refusal 0; and every byte of the lent output afterwards.
@@ -25,3 +26,7 @@ written out (good bytes) =
     cond (leb (length bytes) (length out))
     (record { number = 0; sheet = 0; state = 0; length = length bytes; output = front bytes out })
     (record { number = 13; sheet = 0; state = 0; length = 0; output = out })
+
+-- the answer that a struct of the code holds, with the output
+unfoldable pub writtenBy : SheetAnswer → List ℕ → Written
+writtenBy r output = record { number = r .number; sheet = r .sheet; state = r .state; length = r .length; output = output }

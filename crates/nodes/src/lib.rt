@@ -6,6 +6,7 @@ ghost use Rattle.nodes.specs.SheetBytes.{sheetBytes};
 ghost use Rattle.nodes.specs.Answer.{written};
 ghost use Rattle.nodes.specs.Tables.{statesIn, Held};
 
+pub mod found;
 pub mod known;
 mod write;
 

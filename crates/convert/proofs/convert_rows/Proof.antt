@@ -1,10 +1,8 @@
--- `convert::convert_rows` meets its contract: the sets of rows are found, and the tables that hold their states are written as a sheet.
+-- `convert::convert_rows` meets its contract: the sets of rows are found, and the tables that hold their states are answered for.
 -- Assumes nothing.
-use native.Mathlib.Omega.{arith}
 use borrow.Author.Needs.{needs}
-use borrow.Author.Tests.{not-true, not-false}
-use Rattle.convert.specs.Answer.{writtenBy}
-use Rattle.convert.proofs.Rows.{blank-tables, rows-over, rows-wide, rows-held, rows-good}
+use Rattle.convert.specs.Sets.{nextFrom, readyFrom, convertFrom}
+use Rattle.convert.proofs.Rows.{blank-tables}
 use Rattle.convert.proofs.convert_rows.Statement.{statement}
 use Rattle.convert.proofs.convert_rows.Tie as tie
 
@@ -26,59 +24,29 @@ slice-aggregate-find-5 c = search needs
 find-requires : tie.Need-find-requires
 find-requires c κs = (c .before .before .before .before .before .before .before .before .before .before .pre, blank-tables)
 
-refused-requires : tie.Need-refused-requires
-refused-requires c κs = search needs
+slice-aggregate-write-found : tie.Need-slice-aggregate-write-found
+slice-aggregate-write-found c = search needs
 
-returns : tie.Need-returns
-returns c =
-    let found = c .before .before .before .before .before .before .before .find .ensures in
-    rows-over _ _ _ _ _ _ _ found (c .before .if1 .taken) (c .refused .ensures)
+slice-aggregate-write-found-2 : tie.Need-slice-aggregate-write-found-2
+slice-aggregate-write-found-2 c = search needs
 
-slice-aggregate-all-few : tie.Need-slice-aggregate-all-few
-slice-aggregate-all-few c = search needs
+slice-aggregate-write-found-3 : tie.Need-slice-aggregate-write-found-3
+slice-aggregate-write-found-3 c = search needs
 
-all-few-requires : tie.Need-all-few-requires
-all-few-requires c κs = search needs
-
-refused-requires-2 : tie.Need-refused-requires-2
-refused-requires-2 c κs = search needs
-
-returns-2 : tie.Need-returns-2
-returns-2 c =
-    let found = c .before .before .before .before .before .before .before .before .before .before .find .ensures in
-    let tested = c .before .before .all-few .ensures in
-    rows-wide _ _ _ _ _ _ _ found (omega arith) tested (not-true _ (c .before .if2 .taken)) (c .refused2 .ensures)
-
-slice-aggregate-write-sheet : tie.Need-slice-aggregate-write-sheet
-slice-aggregate-write-sheet c = search needs
-
-slice-aggregate-write-sheet-2 : tie.Need-slice-aggregate-write-sheet-2
-slice-aggregate-write-sheet-2 c = search needs
-
-slice-aggregate-write-sheet-3 : tie.Need-slice-aggregate-write-sheet-3
-slice-aggregate-write-sheet-3 c = search needs
-
-cast-write-sheet : tie.Need-cast-write-sheet
-cast-write-sheet c = search needs
-
-write-sheet-requires : tie.Need-write-sheet-requires
-write-sheet-requires c κs =
-    let few = not-false _ (c .before .before .before .before .if2 .left) in
-    let tested = c .before .before .before .before .before .all-few .ensures in
-    let finding = c .before .before .before .before .before .before .before .before .before .before .before .before .before in
-    let s = finding .before .before .before .before .before .before .before .before .before .before .before in
-    rows-held _ _ _ _ _ (s .args .n) (s .args .sheet .now) (finding .find .ensures) (omega arith) tested few
+write-found-requires : tie.Need-write-found-requires
+write-found-requires c κs = search needs
 
 same-length : tie.Need-same-length
 same-length c = search needs
 
-returns-3 : tie.Need-returns-3
-unfolding writtenBy
-returns-3 c =
-    let testing = c .before .before .before .before .before .before .before .before in
-    let found = testing .before .before .before .before .before .before .before .before .find .ensures in
-    let few = not-false _ (c .before .before .before .before .before .before .before .if2 .left) in
-    rows-good _ _ _ _ _ _ _ found (omega arith) (testing .all-few .ensures) few (c .before .before .write-sheet .ensures)
+returns : tie.Need-returns
+unfolding convertFrom
+returns c =
+    let finding = c .before .before .before .before .before .before .before .before .before .before .before .before in
+    let s = finding .before .before .before .before .before .before .before .before .before .before .before in
+    let found = finding .find .ensures in
+    c .before .before .write-found .ensures (nextFrom (s .args .leads .now) (s .args .targets .now) (s .args .count))
+    (readyFrom (s .args .leads .now) (s .args .ranked .now) (s .args .holders .now) (s .args .count)) 1 _ (found .filled)
 
 pub convert-rows-spec : {M : Type 1} → statement M
 convert-rows-spec =
@@ -90,16 +58,9 @@ convert-rows-spec =
     slice-aggregate-find-4
     slice-aggregate-find-5
     find-requires
-    refused-requires
-    returns
-    slice-aggregate-all-few
-    all-few-requires
-    refused-requires-2
-    returns-2
-    slice-aggregate-write-sheet
-    slice-aggregate-write-sheet-2
-    slice-aggregate-write-sheet-3
-    cast-write-sheet
-    write-sheet-requires
+    slice-aggregate-write-found
+    slice-aggregate-write-found-2
+    slice-aggregate-write-found-3
+    write-found-requires
     same-length
-    returns-3)
+    returns)
