@@ -8,4 +8,5 @@ pub mod Substitution
 pub mod Moves
 pub mod Senses
 pub mod Stands
+pub mod Cells
 pub mod Words
