@@ -9,4 +9,5 @@ pub mod Moves
 pub mod Senses
 pub mod Stands
 pub mod Cells
+pub mod Derived
 pub mod Words
