@@ -1,7 +1,7 @@
 -- Cells of places: how many there are, that they are packed without loss, and where those of a part stand. A list that stands within a
 -- longer one is followed to its own parts by laws for any lists, which serve cells and bodies alike.
 -- Assumes nothing.
-use mathlib.Core.Path.{_≡_, refl, ap, sym, subst, subst⁻¹, _∙_}
+use mathlib.Core.Path.{_≡_, refl, ap, sym, subst, _∙_}
 use mathlib.Core.List.{List, [], _∷_, _++_, append-assoc, append-nil}
 use Prim.Native.Nat.{ℕ, zero, suc, _+_, _*_, _/_, _%_, _<_, _≤_}
 use native.Mathlib.Omega.{arith}
@@ -42,6 +42,14 @@ inside-right {A} l r i long k =
       far = length-append (k .front) l ∙ rw (k .far, long) refl;
     }
 
+pub inside-rest : {A : Type 0} {whole : List A} (x : A) (l : List A) {n : ℕ} → Inside whole (x ∷ l) n → Inside whole l (suc n)
+inside-rest {whole = whole} x l {n} k = subst (Inside whole l) (omega arith) (inside-right (x ∷ []) l 1 refl k)
+
+-- the second of two parts, with what is behind it
+pub inside-second : {A : Type 0} {whole : List A} (l r m : List A) {n : ℕ} (i : ℕ) → length l ≡ i → Inside whole (l ++ (r ++ m)) n
+    → Inside whole r (n + i)
+inside-second l r m i long k = inside-left r m (inside-right l (r ++ m) i long k)
+
 -- the part fits into the whole
 pub inside-fits : {A : Type 0} {whole part : List A} {n : ℕ} → Inside whole part n → n + length part ≤ length whole
 inside-fits {whole = whole} {part = part} {n = n} k =
@@ -61,7 +69,7 @@ inside-first {A} x l {n} d k =
 last-length : {A : Type 0} (l : List A) (x : A) (i : ℕ) → length l ≡ i → length (l ++ (x ∷ [])) ≡ suc i
 last-length l x i e = length-append l (x ∷ []) ∙ omega (arith, e)
 
-both-length : {A : Type 0} (l r : List A) (i k : ℕ) → length l ≡ i → length r ≡ k → length (l ++ r) ≡ i + k
+pub both-length : {A : Type 0} (l r : List A) (i k : ℕ) → length l ≡ i → length r ≡ k → length (l ++ r) ≡ i + k
 both-length l r i k e f = length-append l r ∙ rw (e, f) refl
 
 choice-length : {A : Type 0} (l r : List A) (x : A) (i k : ℕ) → length l ≡ i → length r ≡ k

@@ -10,4 +10,7 @@ pub mod Senses
 pub mod Stands
 pub mod Cells
 pub mod Derived
+pub mod Links
+pub mod Recs
+pub mod Explained
 pub mod Words

@@ -116,6 +116,10 @@ both-lengths t u n scope =
     length-append (sensesIn scope n t) (sensesIn scope (n + sizeOf t) u)
     ∙ rw (senses-length t n scope, senses-length u (n + sizeOf t) scope) refl
 
+-- a rec's own variable is not among those under no prefix in its body
+pub other-naked : (v : ℕ) (t : Term) → (Faulty (loop v t) → ⊥) → (x : ℕ) → Naked x t → v ≡ x → ⊥
+other-naked v t f x k e = f (y-here v t (subst⁻¹ (λ (z : ℕ). Naked z t) e k))
+
 -- all actions of a term are among the fourteen
 abbrev pub ActionsBelow : Term → Type 0
 ActionsBelow end = Unit {0}
@@ -153,7 +157,7 @@ pub record Means (root : Term) (s : Sense) (t : Term) : Type 0 where
 module _ (root : Term) (sound : Faulty root → ⊥) (below : ActionsBelow root) where
   -- ---- what passes from the whole to its parts
 
-  part-sound : {scope : Scope} {σ : Values} {n : ℕ} {t : Term} → Stands root scope σ n t → Faulty t → ⊥
+  pub part-sound : {scope : Scope} {σ : Values} {n : ℕ} {t : Term} → Stands root scope σ n t → Faulty t → ⊥
   part-sound at-root y = sound y
   part-sound (in-before j t w) y = part-sound w (y-before j t y)
   part-sound (in-plus-left t u w) y = part-sound w (y-plus-left t u y)
@@ -162,7 +166,7 @@ module _ (root : Term) (sound : Faulty root → ⊥) (below : ActionsBelow root)
   part-sound (in-inner-right t u w) y = part-sound w (y-inner-right t u y)
   part-sound (in-loop v t w) y = part-sound w (y-loop v t y)
 
-  part-below : {scope : Scope} {σ : Values} {n : ℕ} {t : Term} → Stands root scope σ n t → ActionsBelow t
+  pub part-below : {scope : Scope} {σ : Values} {n : ℕ} {t : Term} → Stands root scope σ n t → ActionsBelow t
   part-below at-root = below
   part-below (in-before j t w) = part-below w .1
   part-below (in-plus-left t u w) = part-below w .0
@@ -208,7 +212,7 @@ module _ (root : Term) (sound : Faulty root → ⊥) (below : ActionsBelow root)
   part-lies (in-loop v t w) = part-lies w
 
   -- what the list has at a place
-  abbrev Listed : ℕ → Sense → Type 0
+  abbrev pub Listed : ℕ → Sense → Type 0
   Listed p s = (senseAt (placesOf root) p ≡ s) × (p < length (placesOf root))
 
   -- the last of the places of a part stands behind the others
@@ -234,10 +238,6 @@ module _ (root : Term) (sound : Faulty root → ⊥) (below : ActionsBelow root)
   -- for variables under no prefix
   abbrev Entries : Scope → Term → Type 0
   Entries scope t = (v : ℕ) → Naked v t → Listed (scope v .place) (scope v)
-
-  -- a rec's own variable is not among them, as it stands under a prefix
-  other-naked : (v : ℕ) (t : Term) → (Faulty (loop v t) → ⊥) → (x : ℕ) → Naked x t → v ≡ x → ⊥
-  other-naked v t f x k e = f (y-here v t (subst⁻¹ (λ (z : ℕ). Naked z t) e k))
 
   end-listed : Listed 0 theEnd
   unfolding senseAt placesOf
@@ -284,6 +284,10 @@ module _ (root : Term) (sound : Faulty root → ⊥) (below : ActionsBelow root)
           subst⁻¹ (λ (s : Sense). Listed (s .place) s) (within-same scope u (senseIn scope n (loop u t)) v d)
           (subst⁻¹ (λ (q : ℕ). Listed q (senseIn scope n (loop u t))) (sense-place (loop u t) n scope (part-sound w)) a)
       go (inr d) a b = subst⁻¹ (λ (s : Sense). Listed (s .place) s) (within-other scope u (senseIn scope n (loop u t)) v d) b
+
+  -- so the list has at the place of every part what the part means
+  pub part-entry : {scope : Scope} {σ : Values} {n : ℕ} {t : Term} → Stands root scope σ n t → Listed (placeIn scope n t) (senseIn scope n t)
+  part-entry {t = t} w = entry t w (λ v k. all-entries w v)
 
   -- ---- closed terms
 
@@ -463,7 +467,7 @@ module _ (root : Term) (sound : Faulty root → ⊥) (below : ActionsBelow root)
   pub place-means : closed root → (p : ℕ) (s : Term) → StandsFor root p s → Means root (senseAt (placesOf root) p) s
   place-means c p s (scope, σ, n, t, w, at, is) =
       let m = part-means t c w (λ v k. free-means c w v (naked-free k)) in
-      let e = entry t w (λ v k. all-entries w v) .0 in
+      let e = part-entry w .0 in
       subst⁻¹ (λ (u : Term). Means root (senseAt (placesOf root) p) u) is
       (subst⁻¹ (λ (q : ℕ). Means root (senseAt (placesOf root) q) (sub σ t)) at
       (subst⁻¹ (λ (r : Sense). Means root r (sub σ t)) e m))
@@ -471,7 +475,7 @@ module _ (root : Term) (sound : Faulty root → ⊥) (below : ActionsBelow root)
   -- a place at which a closed term stands is one of the list
   pub place-inside : (p : ℕ) (s : Term) → StandsFor root p s → p < length (placesOf root)
   place-inside p s (scope, σ, n, t, w, at, is) =
-      subst⁻¹ (λ (q : ℕ). q < length (placesOf root)) at (entry t w (λ v k. all-entries w v) .1)
+      subst⁻¹ (λ (q : ℕ). q < length (placesOf root)) at (part-entry w .1)
 
   -- "at first the whole text"
   pub root-stands : StandsFor root (firstPlace root) root
