@@ -1,80 +1,17 @@
--- Cells of places: how many there are, that they are packed without loss, and where those of a part stand. A list that stands within a
--- longer one is followed to its own parts by laws for any lists, which serve cells and bodies alike.
+-- Cells of places: how many there are, and that they are packed without loss. Lengths are sums by recursion on the term; a link is below
+-- 512, as it is a place or 256 and a rec's number.
 -- Assumes nothing.
-use mathlib.Core.Path.{_≡_, refl, ap, sym, subst, _∙_}
-use mathlib.Core.List.{List, [], _∷_, _++_, append-assoc, append-nil}
+use mathlib.Core.Path.{_≡_, refl, ap}
+use mathlib.Core.List.{[], _∷_}
 use Prim.Native.Nat.{ℕ, zero, suc, _+_, _*_, _/_, _%_, _<_, _≤_}
 use native.Mathlib.Omega.{arith}
-use lib.ListN.{length, getD, set, length-append}
-use lib.Seq.{getD-append-seam}
+use lib.ListN.{length, getD, set}
 use Rattle.text.specs.Terms.{Term, end, before, plus, inner, loop, name}
 use Rattle.text.specs.Places.{sizeOf}
 use Rattle.text.specs.Cells.{Cell, packed, unpacked, Owners, recsOf, linkTo, choiceCell, cellsIn, bodiesIn}
-
--- ---- lists in lists
-
--- a list stands within a longer one, with so many before it
-pub record Inside {A : Type 0} (whole part : List A) (n : ℕ) : Type 0 where
-  pub front : List A
-  pub behind : List A
-  pub is : whole ≡ front ++ (part ++ behind)
-  pub far : length front ≡ n
-
-pub inside-whole : {A : Type 0} (whole : List A) → Inside whole whole 0
-inside-whole whole = record { front = []; behind = []; is = sym (append-nil whole); far = refl }
-
-pub inside-left : {A : Type 0} {whole : List A} (l r : List A) {n : ℕ} → Inside whole (l ++ r) n → Inside whole l n
-inside-left {A} l r k =
-    record {
-      front = k .front;
-      behind = r ++ k .behind;
-      is = k .is ∙ ap (λ (x : List A). k .front ++ x) (append-assoc l r (k .behind));
-      far = k .far;
-    }
-
-pub inside-right : {A : Type 0} {whole : List A} (l r : List A) {n : ℕ} (i : ℕ) → length l ≡ i → Inside whole (l ++ r) n
-    → Inside whole r (n + i)
-inside-right {A} l r i long k =
-    record {
-      front = k .front ++ l;
-      behind = k .behind;
-      is = k .is ∙ ap (λ (x : List A). k .front ++ x) (append-assoc l r (k .behind)) ∙ sym (append-assoc (k .front) l (r ++ k .behind));
-      far = length-append (k .front) l ∙ rw (k .far, long) refl;
-    }
-
-pub inside-rest : {A : Type 0} {whole : List A} (x : A) (l : List A) {n : ℕ} → Inside whole (x ∷ l) n → Inside whole l (suc n)
-inside-rest {whole = whole} x l {n} k = subst (Inside whole l) (omega arith) (inside-right (x ∷ []) l 1 refl k)
-
--- the second of two parts, with what is behind it
-pub inside-second : {A : Type 0} {whole : List A} (l r m : List A) {n : ℕ} (i : ℕ) → length l ≡ i → Inside whole (l ++ (r ++ m)) n
-    → Inside whole r (n + i)
-inside-second l r m i long k = inside-left r m (inside-right l (r ++ m) i long k)
-
--- the part fits into the whole
-pub inside-fits : {A : Type 0} {whole part : List A} {n : ℕ} → Inside whole part n → n + length part ≤ length whole
-inside-fits {whole = whole} {part = part} {n = n} k =
-    let all : length whole ≡ length (k .front) + length (part ++ k .behind) =
-    ap length (k .is) ∙ length-append (k .front) (part ++ k .behind) in
-    omega (arith, all, k .far, length-append part (k .behind))
-
--- the first of a part stands behind those before it
-pub inside-first : {A : Type 0} {whole : List A} (x : A) (l : List A) {n : ℕ} (d : A) → Inside whole (x ∷ l) n → getD whole n d ≡ x
-inside-first {A} x l {n} d k =
-    ap (λ (y : List A). getD y n d) (k .is)
-    ∙ ap (λ (q : ℕ). getD (k .front ++ (x ∷ (l ++ k .behind))) q d) (sym (k .far))
-    ∙ getD-append-seam (k .front) x (l ++ k .behind) d
+use Rattle.text.proofs.Inside.{last-length, both-length, choice-length}
 
 -- ---- lengths
-
-last-length : {A : Type 0} (l : List A) (x : A) (i : ℕ) → length l ≡ i → length (l ++ (x ∷ [])) ≡ suc i
-last-length l x i e = length-append l (x ∷ []) ∙ omega (arith, e)
-
-pub both-length : {A : Type 0} (l r : List A) (i k : ℕ) → length l ≡ i → length r ≡ k → length (l ++ r) ≡ i + k
-both-length l r i k e f = length-append l r ∙ rw (e, f) refl
-
-choice-length : {A : Type 0} (l r : List A) (x : A) (i k : ℕ) → length l ≡ i → length r ≡ k
-    → length (l ++ (r ++ (x ∷ []))) ≡ suc (i + k)
-choice-length l r x i k e f = both-length l (r ++ (x ∷ [])) i (suc k) e (last-length r x k f) ∙ omega arith
 
 pub cells-length : (t : Term) (owners : Owners) (n r : ℕ) → length (cellsIn owners n r t) ≡ sizeOf t
 unfolding cellsIn sizeOf

@@ -4,7 +4,7 @@
 -- Assumes nothing.
 use mathlib.Core.Path.{_≡_, refl, ap, sym, subst, subst⁻¹, _∙_}
 use mathlib.Core.Logic.{_⊎_, inl, inr}
-use mathlib.Core.List.{List, [], _∷_, _++_, append-assoc}
+use mathlib.Core.List.{List, [], _∷_, _++_}
 use Prim.Native.Nat.{ℕ, zero, suc, _+_, _^_, _<_, _≤_}
 use native.Mathlib.Omega.{arith}
 use lib.ListN.{length, getD, set, length-map, List·getD-map}
@@ -90,16 +90,8 @@ use Rattle.text.proofs.Stands.{
   part-below,
   part-entry,
 }
-use Rattle.text.proofs.Cells.{
-  Inside,
-  inside-right,
-  inside-fits,
-  inside-first,
-  both-length,
-  cells-length,
-  unpacked-packed,
-  link-fits,
-}
+use Rattle.text.proofs.Inside.{Inside, inside-right, inside-third, inside-fits, inside-first}
+use Rattle.text.proofs.Cells.{cells-length, unpacked-packed, link-fits}
 use Rattle.text.proofs.Derived.{NamesBelow}
 use Rattle.text.proofs.Links.{Leads, leads, leads-inside, leads-guarded, leads-to}
 use Rattle.text.proofs.Recs.{
@@ -173,14 +165,12 @@ module _ (root : Term) (whole : closed root) (sound : Faulty root → ⊥) (acti
     abbrev Celled : ℕ → Cell → Type 0
     Celled p x = (cellAt cells bodies p ≡ x) × (p < length cells)
 
-    last-celled : {n : ℕ} (front : List Cell) (x : Cell) (i : ℕ) → length front ≡ i
-        → Inside (cellsIn noOwners 0 0 root) (front ++ (x ∷ [])) n → x .kind < 16 → x .left < 512 → Celled (suc (n + i)) x
+    last-celled : {n : ℕ} (x : Cell) → Inside (cellsIn noOwners 0 0 root) (x ∷ []) n → x .kind < 16 → x .left < 512 → Celled (suc n) x
     unfolding cellAt cellNumbers packed
-    last-celled {n} front x i long k small fits =
+    last-celled {n} x own small fits =
         let all = cellsIn noOwners 0 0 root in
-        let blank = prefixCell 0 0 in
-        let own = inside-right front (x ∷ []) i long k in (
-          ap unpacked (List·getD-map packed all (n + i) blank ∙ ap packed (inside-first x [] blank own)) ∙ unpacked-packed x small fits,
+        let blank = prefixCell 0 0 in (
+          ap unpacked (List·getD-map packed all n blank ∙ ap packed (inside-first x [] blank own)) ∙ unpacked-packed x small fits,
           omega (arith, inside-fits own, length-map all packed),
         )
 
@@ -188,8 +178,10 @@ module _ (root : Term) (whole : closed root) (sound : Faulty root → ⊥) (acti
         → Celled (suc (n + sizeOf t)) (prefixCell j (linkTo (ownersAt w) n (recsAt w) t))
     unfolding cellsIn ownersAt recsAt
     prefix-celled {scope} {σ} {n} {j} {t} w =
-        last-celled (cellsIn (ownersAt w) n (recsAt w) t) (prefixCell j (linkTo (ownersAt w) n (recsAt w) t)) (sizeOf t)
-        (cells-length t (ownersAt w) n (recsAt w)) (cells-inside w) (omega (arith, part-below root sound actions w .0)) (part-fits (in-before j t w))
+        let x = prefixCell j (linkTo (ownersAt w) n (recsAt w) t) in
+        last-celled x
+        (inside-right (cellsIn (ownersAt w) n (recsAt w) t) (x ∷ []) (sizeOf t) (cells-length t (ownersAt w) n (recsAt w)) (cells-inside w))
+        (omega (arith, part-below root sound actions w .0)) (part-fits (in-before j t w))
 
     choice-celled : (t u : Term) (owners : Owners) (n r kind : ℕ) → kind < 16 → linkTo owners n r t < 512
         → Inside (cellsIn noOwners 0 0 root)
@@ -197,11 +189,9 @@ module _ (root : Term) (whole : closed root) (sound : Faulty root → ⊥) (acti
         → Celled (suc (n + (sizeOf t + sizeOf u))) (choiceCell owners n r kind t u)
     unfolding choiceCell
     choice-celled t u owners n r kind small fits k =
-        let l = cellsIn owners n r t in
-        let m = cellsIn owners (n + sizeOf t) (r + recsOf t) u in
-        last-celled (l ++ m) (choiceCell owners n r kind t u) (sizeOf t + sizeOf u)
-        (both-length l m (sizeOf t) (sizeOf u) (cells-length t owners n r) (cells-length u owners (n + sizeOf t) (r + recsOf t)))
-        (subst (λ (x : List Cell). Inside (cellsIn noOwners 0 0 root) x n) (sym (append-assoc l m (choiceCell owners n r kind t u ∷ []))) k)
+        last-celled (choiceCell owners n r kind t u)
+        (inside-third (cellsIn owners n r t) (cellsIn owners (n + sizeOf t) (r + recsOf t) u) (choiceCell owners n r kind t u ∷ []) (sizeOf t)
+        (sizeOf u) (cells-length t owners n r) (cells-length u owners (n + sizeOf t) (r + recsOf t)) k)
         small fits
 
     plus-celled : {scope : Scope} {σ : Values} {n : ℕ} {t u : Term} (w : Stands root scope σ n (plus t u))

@@ -6,6 +6,7 @@ pub mod Variables
 pub mod Blanks
 pub mod Substitution
 pub mod Moves
+pub mod Inside
 pub mod Senses
 pub mod Stands
 pub mod Cells

@@ -21,18 +21,8 @@ use Rattle.text.proofs.Stands.{
   in-inner-right,
   in-loop,
 }
-use Rattle.text.proofs.Cells.{
-  Inside,
-  inside-whole,
-  inside-left,
-  inside-right,
-  inside-rest,
-  inside-second,
-  inside-fits,
-  cells-length,
-  bodies-length,
-  set-below,
-}
+use Rattle.text.proofs.Inside.{Inside, inside-whole, inside-left, inside-right, inside-rest, inside-second, inside-fits}
+use Rattle.text.proofs.Cells.{cells-length, bodies-length, set-below}
 use Rattle.text.proofs.Derived.{NamesBelow}
 
 -- ---- a part and the recs around it
