@@ -6,10 +6,16 @@ pub mod Variables
 pub mod Blanks
 pub mod Substitution
 pub mod Moves
+pub mod Inside
 pub mod Senses
 pub mod Stands
 pub mod Fits
 pub mod Lawful
+pub mod Cells
+pub mod Derived
+pub mod Links
+pub mod Recs
+pub mod Explained
 pub mod Words
 pub mod Cases
 pub mod Read

@@ -2,16 +2,11 @@
 -- under a prefix there.
 -- Assumes nothing.
 use mathlib.Core.Path.{_≡_, refl, ap, sym, subst, subst⁻¹, _∙_}
-use mathlib.Core.Bool.{Bool, true, false, cond}
 use mathlib.Core.Logic.{_⊎_, inl, inr, ⊎-elim}
-use mathlib.Core.List.{List, [], _∷_, _++_}
-use Prim.Native.Nat.{ℕ, zero, suc, _+_, _^_, _<_, _≤_}
-use native.Mathlib.Omega.{arith}
-use lib.ListN.{length, getD, length-append}
-use lib.Dec.{eqb}
-use lib.Bits.{bitOr}
-use borrow.Author.Tests.{eqb-true, eqb-false, eq-eqb, ne-eqb}
-use Rattle.model.specs.Lists.{combine}
+use mathlib.Core.List.{[], _∷_}
+use Prim.Native.Nat.{ℕ, suc, _+_, _^_}
+use lib.ListN.{length}
+use borrow.Author.Tests.{eq-eqb, ne-eqb}
 use Rattle.text.specs.Terms.{
   Term,
   end,
@@ -37,22 +32,18 @@ use Rattle.text.specs.Terms.{
   y-inner-right,
 }
 use Rattle.text.specs.Places.{
-  Step,
   Sense,
   theEnd,
   Scope,
-  noScope,
   within,
   sizeOf,
   placeIn,
   placed,
   senseIn,
   sensesIn,
-  placesOf,
-  firstPlace,
-  senseAt,
 }
 use Rattle.text.proofs.Substitution.{same-or-other}
+use Rattle.text.proofs.Inside.{last-length, choice-length}
 
 -- ---- scopes
 
@@ -153,20 +144,12 @@ pub senses-length : (t : Term) (n : ℕ) (scope : Scope) → length (sensesIn sc
 unfolding sensesIn sizeOf
 senses-length end n scope = refl
 senses-length (before j t) n scope =
-    length-append (sensesIn scope n t) (senseIn scope n (before j t) ∷ []) ∙ ap (λ (k : ℕ). k + 1) (senses-length t n scope) ∙ omega arith
+    last-length (sensesIn scope n t) (senseIn scope n (before j t)) (sizeOf t) (senses-length t n scope)
 senses-length (plus t u) n scope =
-    length-append (sensesIn scope n t) (sensesIn scope (n + sizeOf t) u ++ (senseIn scope n (plus t u) ∷ []))
-    ∙ rw (
-      senses-length t n scope,
-      length-append (sensesIn scope (n + sizeOf t) u) (senseIn scope n (plus t u) ∷ []),
-      senses-length u (n + sizeOf t) scope,
-    ) (omega arith)
+    choice-length (sensesIn scope n t) (sensesIn scope (n + sizeOf t) u) (senseIn scope n (plus t u)) (sizeOf t) (sizeOf u)
+    (senses-length t n scope) (senses-length u (n + sizeOf t) scope)
 senses-length (inner t u) n scope =
-    length-append (sensesIn scope n t) (sensesIn scope (n + sizeOf t) u ++ (senseIn scope n (inner t u) ∷ []))
-    ∙ rw (
-      senses-length t n scope,
-      length-append (sensesIn scope (n + sizeOf t) u) (senseIn scope n (inner t u) ∷ []),
-      senses-length u (n + sizeOf t) scope,
-    ) (omega arith)
+    choice-length (sensesIn scope n t) (sensesIn scope (n + sizeOf t) u) (senseIn scope n (inner t u)) (sizeOf t) (sizeOf u)
+    (senses-length t n scope) (senses-length u (n + sizeOf t) scope)
 senses-length (loop v t) n scope = senses-length t n (within scope v (senseIn scope n (loop v t)))
 senses-length (name v) n scope = refl

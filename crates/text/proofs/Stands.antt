@@ -1,14 +1,13 @@
 -- A part of a term where it stands: with what the variables mean there, with the closed terms that they stand for there, and with how many
 -- places are before it. What a place in the list means is what the transitions of the closed term give.
 -- Assumes nothing.
-use mathlib.Core.Path.{_≡_, refl, ap, sym, subst, subst⁻¹, _∙_}
+use mathlib.Core.Path.{_≡_, refl, sym, subst, subst⁻¹, _∙_}
 use mathlib.Core.Logic.{_⊎_, inl, inr, ⊎-elim}
 use mathlib.Core.Option.{Option, none, some, Option·getD, Option·none-ne-some, Option·some-injective}
-use mathlib.Core.List.{List, [], _∷_, _++_, append-assoc, append-nil, List·Memᴰ, List·Memᴰ·head, List·Memᴰ·not-nil, List·Memᴰ·eq-of-singleton, Memᴰ·append-left, Memᴰ·append-right, List·Memᴰ·append-cases}
-use Prim.Native.Nat.{ℕ, zero, suc, _+_, _^_, _<_, _≤_}
+use mathlib.Core.List.{[], _∷_, _++_, List·Memᴰ, List·Memᴰ·head, List·Memᴰ·not-nil, List·Memᴰ·eq-of-singleton, Memᴰ·append-left, Memᴰ·append-right, List·Memᴰ·append-cases}
+use Prim.Native.Nat.{ℕ, suc, _+_, _<_}
 use native.Mathlib.Omega.{arith}
-use lib.ListN.{length, getD, length-append}
-use lib.Seq.{getD-append-seam}
+use lib.ListN.{length}
 use lib.Bits.{bitOr}
 use Rattle.model.specs.Lists.{combine}
 use Rattle.model.proofs.Lists.{combine-intro, combine-elim}
@@ -21,7 +20,6 @@ use Rattle.text.specs.Terms.{
   loop,
   name,
   Free,
-  f-name,
   f-before,
   f-plus-left,
   f-plus-right,
@@ -99,22 +97,21 @@ use Rattle.text.proofs.Moves.{
   loop-acts,
   acts-loop,
 }
+use Rattle.text.proofs.Inside.{
+  Inside,
+  inside-whole,
+  inside-left,
+  inside-right,
+  inside-second,
+  inside-third,
+  inside-fits,
+  inside-first,
+}
 use Rattle.text.proofs.Senses.{within-same, within-other, sense-place, loop-within, loop-place, senses-length}
 
--- ---- lists in lists
-
-within-left : {A : Type 0} (a l r b : List A) → a ++ ((l ++ r) ++ b) ≡ a ++ (l ++ (r ++ b))
-within-left {A} a l r b = ap (λ (x : List A). a ++ x) (append-assoc l r b)
-
-within-right : {A : Type 0} (a l r c b : List A) → a ++ ((l ++ (r ++ c)) ++ b) ≡ (a ++ l) ++ (r ++ (c ++ b))
-within-right {A} a l r c b =
-    ap (λ (x : List A). a ++ x) (append-assoc l (r ++ c) b ∙ ap (λ (x : List A). l ++ x) (append-assoc r c b))
-    ∙ sym (append-assoc a l (r ++ (c ++ b)))
-
-both-lengths : (t u : Term) (n : ℕ) (scope : Scope) → length (sensesIn scope n t ++ sensesIn scope (n + sizeOf t) u) ≡ sizeOf t + sizeOf u
-both-lengths t u n scope =
-    length-append (sensesIn scope n t) (sensesIn scope (n + sizeOf t) u)
-    ∙ rw (senses-length t n scope, senses-length u (n + sizeOf t) scope) refl
+-- a rec's own variable is not among those under no prefix in its body
+pub other-naked : (v : ℕ) (t : Term) → (Faulty (loop v t) → ⊥) → (x : ℕ) → Naked x t → v ≡ x → ⊥
+other-naked v t f x k e = f (y-here v t (subst⁻¹ (λ (z : ℕ). Naked z t) e k))
 
 -- all actions of a term are among the fourteen
 abbrev pub ActionsBelow : Term → Type 0
@@ -153,7 +150,7 @@ pub record Means (root : Term) (s : Sense) (t : Term) : Type 0 where
 module _ (root : Term) (sound : Faulty root → ⊥) (below : ActionsBelow root) where
   -- ---- what passes from the whole to its parts
 
-  part-sound : {scope : Scope} {σ : Values} {n : ℕ} {t : Term} → Stands root scope σ n t → Faulty t → ⊥
+  pub part-sound : {scope : Scope} {σ : Values} {n : ℕ} {t : Term} → Stands root scope σ n t → Faulty t → ⊥
   part-sound at-root y = sound y
   part-sound (in-before j t w) y = part-sound w (y-before j t y)
   part-sound (in-plus-left t u w) y = part-sound w (y-plus-left t u y)
@@ -162,7 +159,7 @@ module _ (root : Term) (sound : Faulty root → ⊥) (below : ActionsBelow root)
   part-sound (in-inner-right t u w) y = part-sound w (y-inner-right t u y)
   part-sound (in-loop v t w) y = part-sound w (y-loop v t y)
 
-  part-below : {scope : Scope} {σ : Values} {n : ℕ} {t : Term} → Stands root scope σ n t → ActionsBelow t
+  pub part-below : {scope : Scope} {σ : Values} {n : ℕ} {t : Term} → Stands root scope σ n t → ActionsBelow t
   part-below at-root = below
   part-below (in-before j t w) = part-below w .1
   part-below (in-plus-left t u w) = part-below w .0
@@ -172,72 +169,46 @@ module _ (root : Term) (sound : Faulty root → ⊥) (below : ActionsBelow root)
   part-below (in-loop v t w) = part-below w
 
   -- the places of a part stand together in the list, behind those before it
-  Lies : Scope → ℕ → Term → Type 0
-  Lies scope n t = (a b : List Sense) × (placesOf root ≡ a ++ (sensesIn scope n t ++ b)) × (length a ≡ suc n)
-
-  part-lies : {scope : Scope} {σ : Values} {n : ℕ} {t : Term} → Stands root scope σ n t → Lies scope n t
-  unfolding Lies placesOf sensesIn
-  part-lies at-root = (theEnd ∷ [], [], ap (λ (l : List Sense). theEnd ∷ l) (sym (append-nil (sensesIn noScope 0 root))), refl)
+  part-lies : {scope : Scope} {σ : Values} {n : ℕ} {t : Term} → Stands root scope σ n t
+      → Inside (sensesIn noScope 0 root) (sensesIn scope n t) n
+  unfolding sensesIn
+  part-lies at-root = inside-whole (sensesIn noScope 0 root)
   part-lies (in-before {scope = scope} {n = n} j t w) =
-      let k = part-lies w in
-      (k .0, (senseIn scope n (before j t) ∷ []) ++ k .1, k .2 ∙ within-left (k .0) (sensesIn scope n t) (senseIn scope n (before j t) ∷ []) (k .1), k .3)
+      inside-left (sensesIn scope n t) (senseIn scope n (before j t) ∷ []) (part-lies w)
   part-lies (in-plus-left {scope = scope} {n = n} t u w) =
-      let k = part-lies w in
-      let rest = sensesIn scope (n + sizeOf t) u ++ (senseIn scope n (plus t u) ∷ []) in
-      (k .0, rest ++ k .1, k .2 ∙ within-left (k .0) (sensesIn scope n t) rest (k .1), k .3)
+      inside-left (sensesIn scope n t) (sensesIn scope (n + sizeOf t) u ++ (senseIn scope n (plus t u) ∷ [])) (part-lies w)
   part-lies (in-plus-right {scope = scope} {n = n} t u w) =
-      let k = part-lies w in
-      let last = senseIn scope n (plus t u) ∷ [] in (
-        k .0 ++ sensesIn scope n t,
-        last ++ k .1,
-        k .2 ∙ within-right (k .0) (sensesIn scope n t) (sensesIn scope (n + sizeOf t) u) last (k .1),
-        length-append (k .0) (sensesIn scope n t) ∙ rw (k .3, senses-length t n scope) (omega arith),
-      )
+      inside-second (sensesIn scope n t) (sensesIn scope (n + sizeOf t) u) (senseIn scope n (plus t u) ∷ []) (sizeOf t)
+      (senses-length t n scope) (part-lies w)
   part-lies (in-inner-left {scope = scope} {n = n} t u w) =
-      let k = part-lies w in
-      let rest = sensesIn scope (n + sizeOf t) u ++ (senseIn scope n (inner t u) ∷ []) in
-      (k .0, rest ++ k .1, k .2 ∙ within-left (k .0) (sensesIn scope n t) rest (k .1), k .3)
+      inside-left (sensesIn scope n t) (sensesIn scope (n + sizeOf t) u ++ (senseIn scope n (inner t u) ∷ [])) (part-lies w)
   part-lies (in-inner-right {scope = scope} {n = n} t u w) =
-      let k = part-lies w in
-      let last = senseIn scope n (inner t u) ∷ [] in (
-        k .0 ++ sensesIn scope n t,
-        last ++ k .1,
-        k .2 ∙ within-right (k .0) (sensesIn scope n t) (sensesIn scope (n + sizeOf t) u) last (k .1),
-        length-append (k .0) (sensesIn scope n t) ∙ rw (k .3, senses-length t n scope) (omega arith),
-      )
+      inside-second (sensesIn scope n t) (sensesIn scope (n + sizeOf t) u) (senseIn scope n (inner t u) ∷ []) (sizeOf t)
+      (senses-length t n scope) (part-lies w)
   part-lies (in-loop v t w) = part-lies w
 
   -- what the list has at a place
-  abbrev Listed : ℕ → Sense → Type 0
+  abbrev pub Listed : ℕ → Sense → Type 0
   Listed p s = (senseAt (placesOf root) p ≡ s) × (p < length (placesOf root))
 
   -- the last of the places of a part stands behind the others
-  last-at : (scope : Scope) (n : ℕ) (t : Term) (front : List Sense) (x : Sense) → sensesIn scope n t ≡ front ++ (x ∷ []) → Lies scope n t
-      → (i : ℕ) → length front ≡ i → Listed (suc (n + i)) x
-  unfolding Lies senseAt
-  last-at scope n t front x e k i long =
-      let whole : placesOf root ≡ (k .0 ++ front) ++ (x ∷ k .1) =
-      k .2 ∙ ap (λ (l : List Sense). k .0 ++ (l ++ k .1)) e ∙ ap (λ (l : List Sense). k .0 ++ l) (append-assoc front (x ∷ []) (k .1))
-      ∙ sym (append-assoc (k .0) front (x ∷ k .1)) in
-      let far : length (k .0 ++ front) ≡ suc (n + i) =
-      length-append (k .0) front ∙ rw (k .3, long) (omega arith) in
-      let all : length (placesOf root) ≡ length (k .0 ++ front) + suc (length (k .1)) =
-      ap length whole ∙ length-append (k .0 ++ front) (x ∷ k .1) in (
-        ap (λ (l : List Sense). getD l (suc (n + i)) theEnd) whole
-            ∙ ap (λ (q : ℕ). getD ((k .0 ++ front) ++ (x ∷ k .1)) q theEnd) (sym far)
-            ∙ getD-append-seam (k .0 ++ front) x (k .1) theEnd,
-        omega arith,
-      )
+  last-listed : {n : ℕ} (x : Sense) → Inside (sensesIn noScope 0 root) (x ∷ []) n → Listed (suc n) x
+  unfolding senseAt placesOf
+  last-listed x own = (inside-first x [] theEnd own, omega (arith, inside-fits own))
+
+  choice-listed : (t u : Term) (scope : Scope) (n : ℕ) (x : Sense)
+      → Inside (sensesIn noScope 0 root) (sensesIn scope n t ++ (sensesIn scope (n + sizeOf t) u ++ (x ∷ []))) n
+      → Listed (suc (n + (sizeOf t + sizeOf u))) x
+  choice-listed t u scope n x k =
+      last-listed x
+      (inside-third (sensesIn scope n t) (sensesIn scope (n + sizeOf t) u) (x ∷ []) (sizeOf t) (sizeOf u) (senses-length t n scope)
+      (senses-length u (n + sizeOf t) scope) k)
 
   -- ---- what the list has for a part's place is what the part means
 
   -- for variables under no prefix
   abbrev Entries : Scope → Term → Type 0
   Entries scope t = (v : ℕ) → Naked v t → Listed (scope v .place) (scope v)
-
-  -- a rec's own variable is not among them, as it stands under a prefix
-  other-naked : (v : ℕ) (t : Term) → (Faulty (loop v t) → ⊥) → (x : ℕ) → Naked x t → v ≡ x → ⊥
-  other-naked v t f x k e = f (y-here v t (subst⁻¹ (λ (z : ℕ). Naked z t) e k))
 
   end-listed : Listed 0 theEnd
   unfolding senseAt placesOf
@@ -248,15 +219,10 @@ module _ (root : Term) (sound : Faulty root → ⊥) (below : ActionsBelow root)
   unfolding placeIn sensesIn senseIn
   entry end w e = end-listed
   entry (before j t) {scope} {σ} {n} w e =
-      last-at scope n (before j t) (sensesIn scope n t) (senseIn scope n (before j t)) refl (part-lies w) (sizeOf t) (senses-length t n scope)
-  entry (plus t u) {scope} {σ} {n} w e =
-      last-at scope n (plus t u) (sensesIn scope n t ++ sensesIn scope (n + sizeOf t) u) (senseIn scope n (plus t u))
-      (sym (append-assoc (sensesIn scope n t) (sensesIn scope (n + sizeOf t) u) (senseIn scope n (plus t u) ∷ []))) (part-lies w)
-      (sizeOf t + sizeOf u) (both-lengths t u n scope)
-  entry (inner t u) {scope} {σ} {n} w e =
-      last-at scope n (inner t u) (sensesIn scope n t ++ sensesIn scope (n + sizeOf t) u) (senseIn scope n (inner t u))
-      (sym (append-assoc (sensesIn scope n t) (sensesIn scope (n + sizeOf t) u) (senseIn scope n (inner t u) ∷ []))) (part-lies w)
-      (sizeOf t + sizeOf u) (both-lengths t u n scope)
+      let x = senseIn scope n (before j t) in
+      last-listed x (inside-right (sensesIn scope n t) (x ∷ []) (sizeOf t) (senses-length t n scope) (part-lies w))
+  entry (plus t u) {scope} {σ} {n} w e = choice-listed t u scope n (senseIn scope n (plus t u)) (part-lies w)
+  entry (inner t u) {scope} {σ} {n} w e = choice-listed t u scope n (senseIn scope n (inner t u)) (part-lies w)
   entry (loop v t) {scope} {σ} {n} w e =
       let f = part-sound w in
       let own = senseIn scope n (loop v t) in
@@ -284,6 +250,10 @@ module _ (root : Term) (sound : Faulty root → ⊥) (below : ActionsBelow root)
           subst⁻¹ (λ (s : Sense). Listed (s .place) s) (within-same scope u (senseIn scope n (loop u t)) v d)
           (subst⁻¹ (λ (q : ℕ). Listed q (senseIn scope n (loop u t))) (sense-place (loop u t) n scope (part-sound w)) a)
       go (inr d) a b = subst⁻¹ (λ (s : Sense). Listed (s .place) s) (within-other scope u (senseIn scope n (loop u t)) v d) b
+
+  -- so the list has at the place of every part what the part means
+  pub part-entry : {scope : Scope} {σ : Values} {n : ℕ} {t : Term} → Stands root scope σ n t → Listed (placeIn scope n t) (senseIn scope n t)
+  part-entry {t = t} w = entry t w (λ v k. all-entries w v)
 
   -- ---- closed terms
 
@@ -463,7 +433,7 @@ module _ (root : Term) (sound : Faulty root → ⊥) (below : ActionsBelow root)
   pub place-means : closed root → (p : ℕ) (s : Term) → StandsFor root p s → Means root (senseAt (placesOf root) p) s
   place-means c p s (scope, σ, n, t, w, at, is) =
       let m = part-means t c w (λ v k. free-means c w v (naked-free k)) in
-      let e = entry t w (λ v k. all-entries w v) .0 in
+      let e = part-entry w .0 in
       subst⁻¹ (λ (u : Term). Means root (senseAt (placesOf root) p) u) is
       (subst⁻¹ (λ (q : ℕ). Means root (senseAt (placesOf root) q) (sub σ t)) at
       (subst⁻¹ (λ (r : Sense). Means root r (sub σ t)) e m))
@@ -471,7 +441,7 @@ module _ (root : Term) (sound : Faulty root → ⊥) (below : ActionsBelow root)
   -- a place at which a closed term stands is one of the list
   pub place-inside : (p : ℕ) (s : Term) → StandsFor root p s → p < length (placesOf root)
   place-inside p s (scope, σ, n, t, w, at, is) =
-      subst⁻¹ (λ (q : ℕ). q < length (placesOf root)) at (entry t w (λ v k. all-entries w v) .1)
+      subst⁻¹ (λ (q : ℕ). q < length (placesOf root)) at (part-entry w .1)
 
   -- "at first the whole text"
   pub root-stands : StandsFor root (firstPlace root) root

@@ -56,7 +56,7 @@ width l t x e = width-of e
 -- ---- places
 
 -- an action has a byte at least
-spelled-some : {j : ℕ} {x : List ℕ} → Spelled j x → (1 ≤ length x) × (1 ≡ length x → length x % 2 ≡ 1)
+pub spelled-some : {j : ℕ} {x : List ℕ} → Spelled j x → (1 ≤ length x) × (1 ≡ length x → length x % 2 ≡ 1)
 spelled-some (takes i h) = omega arith
 spelled-some (sends i h) = omega arith
 
