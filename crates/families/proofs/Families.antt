@@ -1,10 +1,10 @@
--- What numbers say of a family, one by one: none but the first number, a number united with another, numbers copied and compared.
+-- What numbers say of a family, one by one: which masks they have, all of them 0 but the first, united with others, copied, compared.
 -- Assumes nothing.
-use mathlib.Core.Path.{_≡_, sym, subst, _∙_}
+use mathlib.Core.Path.{_≡_, refl, sym, subst, _∙_}
 use mathlib.Core.Bool.{_||_}
 use mathlib.Core.Logic.{⊎-elim}
 use mathlib.Core.List.{List}
-use Prim.Native.Nat.{ℕ, zero, suc, _-_, _/_, _%_, _≤_, _<_}
+use Prim.Native.Nat.{ℕ, zero, suc, _+_, _*_, _-_, _/_, _%_, _≤_, _<_}
 use native.Mathlib.Omega.{arith}
 use native.Mathlib.Nat.{eq-or-lt-of-le}
 use lib.ListN.{length, getD, set, length-set}
@@ -17,6 +17,14 @@ use Rattle.model.proofs.Bits.{has-or}
 use Rattle.model.proofs.Masks.{has-none, has-zero, has-suc}
 use Rattle.families.specs.Families.{inFamily}
 use Rattle.families.proofs.Replacing.{Replaced}
+
+-- a mask by its number and its place there
+pub in-number : (l : List ℕ) (i p m : ℕ) → p < 64 → m ≡ 64 * i + p → inFamily l m ≡ has (getD l i 0) p
+unfolding inFamily
+in-number l i p m h e =
+    let number : m / 64 ≡ i = omega arith in
+    let place : m % 64 ≡ p = omega arith in
+    rw (number, place) refl
 
 -- ---- the empty mask alone
 

@@ -20,6 +20,7 @@ use Rattle.model.proofs.Bits.{has-and, has-or, has-or-right, has-mod, has-below
 use Rattle.model.proofs.Masks.{sameBit, has-none, has-power}
 use Rattle.families.specs.Families.{inFamily, Forced}
 use Rattle.families.proofs.Replacing.{Replaced}
+use Rattle.families.proofs.Families.{in-number}
 
 -- ---- tests
 
@@ -140,14 +141,6 @@ gained-all l j {now} long r end = (r .room ∙ long, forced l now j all-same)
         let e : 64 * (m / 64) + m % 64 ≡ m = omega arith in
         subst (λ (x : ℕ). has (getD now (m / 64) 0) (m % 64) ≡ gainedBit l j x) e
         (r .done (m / 64) (omega arith) (omega arith) (m % 64) (omega arith))
-
--- a mask by its number and its place there
-in-number : (l : List ℕ) (i p m : ℕ) → p < 64 → m ≡ 64 * i + p → inFamily l m ≡ has (getD l i 0) p
-unfolding inFamily
-in-number l i p m h e =
-    let number : m / 64 ≡ i = omega arith in
-    let place : m % 64 ≡ p = omega arith in
-    rw (number, place) refl
 
 module _ (l : List ℕ) (i p : ℕ) (h : p < 64) where
   turned : i * 2 ^ 6 + p ≡ 64 * i + p

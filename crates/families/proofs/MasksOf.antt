@@ -4,7 +4,7 @@ use mathlib.Core.Path.{_≡_, refl, sym, ap}
 use mathlib.Core.Bool.{Bool, true, false, cond}
 use mathlib.Core.Logic.{⊎-elim}
 use mathlib.Core.List.{List, [], _∷_, _++_, map}
-use Prim.Native.Nat.{ℕ, zero, suc, _+_, _-_, _*_, _/_, _%_, _^_, _≤_, _<_}
+use Prim.Native.Nat.{ℕ, zero, suc, _+_, _-_, _*_, _^_, _≤_, _<_}
 use native.Mathlib.Omega.{arith}
 use native.Mathlib.Nat.{eq-or-lt-of-le}
 use lib.ListN.{getD}
@@ -15,6 +15,7 @@ use Rattle.model.specs.Contract.{has}
 use Rattle.model.proofs.Masks.{has-none}
 use Rattle.model.proofs.LowestBit.{Lowest, lowest-bit, set-among}
 use Rattle.families.specs.Families.{inFamily, masksOf, masksIn}
+use Rattle.families.proofs.Families.{in-number}
 
 -- ---- ranges
 
@@ -75,24 +76,17 @@ module _ (words : List ℕ) where
   unfolding keep upto
   from-end w h = let none : 16384 - 64 * w ≡ 0 = omega arith in rw none refl
 
-  number-has : (w p : ℕ) → p < 64 → inFamily words (64 * w + p) ≡ has (getD words w 0) p
-  unfolding inFamily
-  number-has w p h =
-      let number : (64 * w + p) / 64 ≡ w = omega arith in
-      let place : (64 * w + p) % 64 ≡ p = omega arith in
-      rw (number, place) refl
-
-  in-number : (w : ℕ) → keep (inFamily words) (upto (64 * w) 64) ≡ masksIn w (getD words w 0)
+  of-number : (w : ℕ) → keep (inFamily words) (upto (64 * w) 64) ≡ masksIn w (getD words w 0)
   unfolding masksIn
-  in-number w =
+  of-number w =
       let e : 64 * w + 0 ≡ 64 * w = omega arith in
-      rw e at (keep-later (inFamily words) (has (getD words w 0)) (64 * w) 0 64 (number-has w))
+      rw e at (keep-later (inFamily words) (has (getD words w 0)) (64 * w) 0 64 (λ p h. in-number words w p (64 * w + p) h refl))
 
   pub from-more : (w : ℕ) → w < 256 → masksFrom words w ≡ masksIn w (getD words w 0) ++ masksFrom words (w + 1)
   from-more w h =
       let left : 16384 - 64 * w ≡ 64 + (16384 - 64 * (w + 1)) = omega arith in
       let next : 64 * w + 64 ≡ 64 * (w + 1) = omega arith in
-      rw (left, upto-parts (64 * w) 64 (16384 - 64 * (w + 1)), next, keep-parts, in-number w) refl
+      rw (left, upto-parts (64 * w) 64 (16384 - 64 * (w + 1)), next, keep-parts, of-number w) refl
 
 -- ---- in a number, from the lowest bit on
 

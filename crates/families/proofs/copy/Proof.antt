@@ -2,10 +2,10 @@
 -- Assumes nothing.
 use mathlib.Core.Path.{_≡_, refl, sym, _∙_}
 use Prim.Native.Nat.{ℕ}
+use native.Mathlib.Omega.{arith}
 use lib.ListN.{getD}
 use Rattle.families.proofs.Replacing.{Replaced, replaced-none, replaced-more}
 use Rattle.families.proofs.Families.{copied}
-use native.Mathlib.Omega.{arith}
 use Rattle.families.proofs.copy.Statement.{statement}
 use Rattle.families.proofs.copy.Tie as tie
 

@@ -2,9 +2,9 @@
 -- Assumes nothing.
 use mathlib.Core.Path.{_≡_, subst}
 use Prim.Native.Nat.{ℕ, _+_, _-_}
-use Rattle.families.specs.Families.{Forced}
-use borrow.Author.Needs.{needs}
 use native.Mathlib.Omega.{arith}
+use borrow.Author.Needs.{needs}
+use Rattle.families.specs.Families.{Forced}
 use Rattle.families.proofs.gain.Statement.{statement}
 use Rattle.families.proofs.gain.Tie as tie
 
@@ -24,9 +24,11 @@ same-length-2 : tie.Need-same-length-2
 same-length-2 c = search needs
 
 returns-2 : tie.Need-returns-2
-returns-2 c = let a = c .before .before .before .before .before .before .args in
+returns-2 c =
+    let a = c .before .before .before .before .before .before .args in
     let e : 6 + (a .j - 6) ≡ a .j = omega arith in
-    let done = c .before .before .gain-high .ensures in (done .0, subst (λ (j : ℕ). Forced j (a .family .now) (c .before .before .gain-high .last .0)) e (done .1))
+    let done = c .before .before .gain-high .ensures in
+    (done .0, subst (λ (j : ℕ). Forced j (a .family .now) (c .before .before .gain-high .last .0)) e (done .1))
 
 pub gain-spec : {M : Type 1} → statement M
 gain-spec =

@@ -1,9 +1,9 @@
 -- `families::gain_high` meets its contract. The loop's invariant: the numbers from w on have gained the action, the others are as lent.
 -- Assumes nothing.
 use Prim.Native.Nat.{_-_, _+_}
+use native.Mathlib.Omega.{arith}
 use Rattle.families.proofs.Replacing.{Replaced, replaced-none, replaced-more}
 use Rattle.families.proofs.Gaining.{GainedWord, gained-high, gained-all}
-use native.Mathlib.Omega.{arith}
 use Rattle.families.proofs.gain_high.Statement.{statement}
 use Rattle.families.proofs.gain_high.Tie as tie
 
@@ -32,7 +32,8 @@ loop-less : tie.Need-loop-less Inv-loop μ-loop
 loop-less c = omega arith
 
 loop-again : tie.Need-loop-again Inv-loop μ-loop
-loop-again c = let l = c .before .before .before .loop in
+loop-again c =
+    let l = c .before .before .before .loop in
     let a = c .before .before .before .before .before .args in
     replaced-more _ (l .inv) (omega arith)
     (gained-high (a .family .now) (l .family) (a .b) (l .w - 1) (λ k h. l .inv .kept k (omega arith)) (c .gained-across .ensures))

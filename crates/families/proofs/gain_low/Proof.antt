@@ -1,9 +1,9 @@
 -- `families::gain_low` meets its contract. The loop's invariant: the numbers from w on have gained the action, the others are as lent.
 -- Assumes nothing.
-use Rattle.families.proofs.Replacing.{Replaced, replaced-none, replaced-more}
-use Rattle.families.proofs.Gaining.{GainedWord, gained-low, gained-all}
 use Prim.Native.Nat.{_-_}
 use native.Mathlib.Omega.{arith}
+use Rattle.families.proofs.Replacing.{Replaced, replaced-none, replaced-more}
+use Rattle.families.proofs.Gaining.{GainedWord, gained-low, gained-all}
 use Rattle.families.proofs.gain_low.Statement.{statement}
 use Rattle.families.proofs.gain_low.Tie as tie
 
@@ -38,7 +38,8 @@ loop-less : tie.Need-loop-less Inv-loop μ-loop
 loop-less c = omega arith
 
 loop-again : tie.Need-loop-again Inv-loop μ-loop
-loop-again c = let l = c .before .before .before .loop in
+loop-again c =
+    let l = c .before .before .before .loop in
     let start = c .before .before .before .before .before in
     let word = l .inv .kept (l .w - 1) (omega arith) in
     replaced-more _ (l .inv) (omega arith)

@@ -2,10 +2,10 @@
 -- Assumes nothing.
 use mathlib.Core.Path.{_≡_}
 use Prim.Native.Nat.{_*_, _%_, _^_, _<_}
-use lib.Pow.{pow-lt}
-use Rattle.families.proofs.Gaining.{step-fits, across-some, across-none}
-use borrow.Author.Needs.{needs}
 use native.Mathlib.Omega.{arith}
+use lib.Pow.{pow-lt}
+use borrow.Author.Needs.{needs}
+use Rattle.families.proofs.Gaining.{step-fits, across-some, across-none}
 use Rattle.families.proofs.gained_across.Statement.{statement}
 use Rattle.families.proofs.gained_across.Tie as tie
 
@@ -22,7 +22,10 @@ shared-slice-read-result : tie.Need-shared-slice-read-result
 shared-slice-read-result c = search needs
 
 sub-result : tie.Need-sub-result
-sub-result c = let a = c .before .before .args in let small : 2 ^ a .b < 2 ^ 8 = pow-lt {j = 8} (omega arith) in omega (arith, step-fits (a .w) (a .b) (c .before .if1 .taken))
+sub-result c =
+    let a = c .before .before .args in
+    let small : 2 ^ a .b < 2 ^ 8 = pow-lt {j = 8} (omega arith) in
+    omega (arith, step-fits (a .w) (a .b) (c .before .if1 .taken))
 
 mul-result-2 : tie.Need-mul-result-2
 mul-result-2 c = search needs
@@ -31,7 +34,8 @@ shared-slice-read-result-2 : tie.Need-shared-slice-read-result-2
 shared-slice-read-result-2 c = search needs
 
 returns : tie.Need-returns
-returns c = let a = c .before .before .before .args in
+returns c =
+    let a = c .before .before .before .args in
     let small : 2 ^ a .b < 2 ^ 8 = pow-lt {j = 8} (omega arith) in
     let step : 1 * 2 ^ a .b % 2 ^ 64 ≡ 2 ^ a .b = omega arith in
     across-some (a .family .now) (a .w) (a .b) (1 * 2 ^ a .b % 2 ^ 64) step (c .before .before .if1 .taken)

@@ -1,8 +1,8 @@
 -- `families::lowest` meets its contract: 64 bits have at most 64 zeros.
 -- Assumes nothing.
+use native.Mathlib.Omega.{arith}
 use lib.Count.{trailing-le}
 use borrow.Author.Needs.{needs}
-use native.Mathlib.Omega.{arith}
 use Rattle.families.proofs.lowest.Statement.{statement}
 use Rattle.families.proofs.lowest.Tie as tie
 

@@ -1,11 +1,11 @@
 -- `families::masks` meets its contract. The loop's invariant: n of the family's masks are written, and those of the numbers from w on are left.
 -- Assumes nothing.
 use Prim.Native.Nat.{_-_, _≤_}
+use native.Mathlib.Omega.{arith}
 use lib.ListN.{getD}
 use Rattle.families.specs.Families.{masksOf, masksIn}
 use Rattle.families.proofs.MasksOf.{masksFrom, from-all, from-end, from-more}
 use Rattle.families.proofs.Writing.{Writing, writing-none, writing-length, writing-end, most-length, rest-room, piece-all, piece-over}
-use native.Mathlib.Omega.{arith}
 use Rattle.families.proofs.masks.Statement.{statement}
 use Rattle.families.proofs.masks.Tie as tie
 
@@ -40,20 +40,24 @@ sub-masks-in-2 : tie.Need-sub-masks-in-2 Inv-loop μ-loop
 sub-masks-in-2 c = omega arith
 
 masks-in-requires : tie.Need-masks-in-requires Inv-loop μ-loop
-masks-in-requires c κs = let l = c .before .before .before .loop in
+masks-in-requires c κs =
+    let l = c .before .before .before .loop in
     (omega arith, omega arith, rest-room (l .inv .1) (8 - l .n) (omega arith))
 
 add-n : tie.Need-add-n Inv-loop μ-loop
 add-n c = omega (arith, c .before .before .masks-in .ensures .0)
 
 returns : tie.Need-returns Inv-loop μ-loop
-returns c = let l = c .before .before .before .before .before .before .before .loop in
+returns c =
+    let l = c .before .before .before .before .before .before .before .loop in
     let family = c .before .before .before .before .before .before .before .before .before .before .args .family .now in
     piece-over (l .inv .1) (masksIn (l .w) (getD family (l .w) 0)) _ (from-more family (l .w) (omega arith)) (8 - l .n) (omega arith)
     (c .before .before .before .masks-in .ensures) 8 (omega arith) (omega arith)
 
 same-length : tie.Need-same-length Inv-loop μ-loop
-same-length c = let start = c .before .before .before .before .before .before .before .before .before .before .args in most-length 8 (masksOf (start .family .now)) (start .out .now) (returns c) (omega arith)
+same-length c =
+    let start = c .before .before .before .before .before .before .before .before .before .before .args in
+    most-length 8 (masksOf (start .family .now)) (start .out .now) (returns c) (omega arith)
 
 add-w : tie.Need-add-w Inv-loop μ-loop
 add-w c = omega arith
@@ -62,7 +66,8 @@ loop-less : tie.Need-loop-less Inv-loop μ-loop
 loop-less c = omega arith
 
 loop-again : tie.Need-loop-again Inv-loop μ-loop
-loop-again c = let l = c .before .before .before .before .before .before .before .loop in
+loop-again c =
+    let l = c .before .before .before .before .before .before .before .loop in
     let family = c .before .before .before .before .before .before .before .before .before .before .args .family .now in (
       omega arith,
       piece-all (l .inv .1) (masksIn (l .w) (getD family (l .w) 0)) _ (from-more family (l .w) (omega arith)) (8 - l .n) (omega arith)

@@ -3,11 +3,11 @@
 use mathlib.Core.Path.{_≡_, refl, sym, subst}
 use mathlib.Core.List.{[]}
 use Prim.Native.Nat.{ℕ, _^_, _≤_, _<_}
+use native.Mathlib.Omega.{arith}
 use lib.Count.{trailing-le}
 use Rattle.families.specs.Families.{masksIn}
 use Rattle.families.proofs.MasksOf.{in-none, in-less, in-lowest}
 use Rattle.families.proofs.Writing.{Writing, writing-none, writing-length, writing-end, writing-over, writing-more}
-use native.Mathlib.Omega.{arith}
 use Rattle.families.proofs.masks_in.Statement.{statement}
 use Rattle.families.proofs.masks_in.Tie as tie
 
@@ -27,7 +27,8 @@ same-length : tie.Need-same-length Inv-loop μ-loop
 same-length c = writing-length (c .before .before .loop .inv .2) (omega arith)
 
 returns : tie.Need-returns Inv-loop μ-loop
-returns c = let l = c .before .before .loop in
+returns c =
+    let l = c .before .before .loop in
     let some = c .before .loop-test .taken in
     writing-over (l .inv .2) (in-lowest (c .before .before .before .before .args .w) (l .rest) some (l .inv .1) refl) _ (c .if1 .taken)
 
@@ -56,10 +57,13 @@ sub-rest : tie.Need-sub-rest Inv-loop μ-loop
 sub-rest c = omega arith
 
 loop-less : tie.Need-loop-less Inv-loop μ-loop
-loop-less c = let l = c .before .before .before .loop in in-less (c .before .before .before .before .before .args .w) (l .rest) (c .before .before .loop-test .taken) (l .inv .1)
+loop-less c =
+    let l = c .before .before .before .loop in
+    in-less (c .before .before .before .before .before .args .w) (l .rest) (c .before .before .loop-test .taken) (l .inv .1)
 
 loop-again : tie.Need-loop-again Inv-loop μ-loop
-loop-again c = let l = c .before .before .before .loop in
+loop-again c =
+    let l = c .before .before .before .loop in
     let a = c .before .before .before .before .before .args in
     let some = c .before .before .loop-test .taken in (
       omega (arith, c .before .if1 .left),
@@ -71,8 +75,10 @@ same-length-2 : tie.Need-same-length-2 Inv-loop μ-loop
 same-length-2 c = writing-length (c .before .loop .inv .2) (omega arith)
 
 returns-2 : tie.Need-returns-2 Inv-loop μ-loop
-returns-2 c = let l = c .before .loop in
-    writing-end (l .inv .2) _ (subst (λ (x : ℕ). masksIn (c .before .before .before .args .w) x ≡ []) (sym (c .loop-test .left)) (in-none _)) (l .inv .0)
+returns-2 c =
+    let l = c .before .loop in
+    let w = c .before .before .before .args .w in
+    writing-end (l .inv .2) _ (subst (λ (x : ℕ). masksIn w x ≡ []) (sym (c .loop-test .left)) (in-none w)) (l .inv .0)
 
 pub masks-in-spec : {M : Type 1} → statement M
 masks-in-spec =

@@ -2,10 +2,10 @@
 -- Assumes nothing.
 use mathlib.Core.Path.{_≡_, refl, _∙_}
 use Prim.Native.Nat.{ℕ}
+use native.Mathlib.Omega.{arith}
 use lib.ListN.{length-set}
 use Rattle.families.proofs.Replacing.{Replaced, replaced-none, replaced-more}
 use Rattle.families.proofs.Families.{empty-only}
-use native.Mathlib.Omega.{arith}
 use Rattle.families.proofs.only_empty.Statement.{statement}
 use Rattle.families.proofs.only_empty.Tie as tie
 

@@ -1,8 +1,8 @@
 -- `families::places_with` meets its contract: each table is compared with the places, one by one.
 -- Assumes nothing.
 use mathlib.Core.Path.{_≡_}
-use Rattle.families.proofs.Tables.{table-0, table-1, table-2, table-3, table-4, table-5}
 use native.Mathlib.Omega.{arith}
+use Rattle.families.proofs.Tables.{table-0, table-1, table-2, table-3, table-4, table-5}
 use Rattle.families.proofs.places_with.Statement.{statement}
 use Rattle.families.proofs.places_with.Tie as tie
 

@@ -3,10 +3,10 @@
 use mathlib.Core.Path.{_≡_, ap, sym, _∙_}
 use mathlib.Core.List.{List}
 use Prim.Native.Nat.{ℕ, _-_, _≤_, _<_}
+use native.Mathlib.Omega.{arith}
 use lib.ListN.{getD}
 use lib.Seq.{ext-getD}
 use Rattle.families.proofs.Families.{equal-more}
-use native.Mathlib.Omega.{arith}
 use Rattle.families.proofs.same.Statement.{statement}
 use Rattle.families.proofs.same.Tie as tie
 
@@ -35,19 +35,22 @@ shared-slice-read-if1-2 : tie.Need-shared-slice-read-if1-2 Inv-loop μ-loop
 shared-slice-read-if1-2 c = omega arith
 
 returns : tie.Need-returns Inv-loop μ-loop
-returns c = let l = c .before .before .before .before .loop in
+returns c =
+    let l = c .before .before .before .before .loop in
     (λ t. absurd t, λ e. c .if1 .taken (ap (λ (list : List ℕ). getD list (l .w - 1) 0) e))
 
 loop-less : tie.Need-loop-less Inv-loop μ-loop
 loop-less c = omega arith
 
 loop-again : tie.Need-loop-again Inv-loop μ-loop
-loop-again c = let l = c .before .before .before .before .loop in
+loop-again c =
+    let l = c .before .before .before .before .loop in
     let a = c .before .before .before .before .before .args in
     (omega (arith, l .inv .0), equal-more (a .one .now) (a .other .now) (l .w) (l .inv .1) (c .if1 .left))
 
 returns-2 : tie.Need-returns-2 Inv-loop μ-loop
-returns-2 c = let given = c .before .before .pre in
+returns-2 c =
+    let given = c .before .before .pre in
     (λ t. ext-getD 0 _ _ (given .0 ∙ sym (given .1)) (λ i h. c .before .loop .inv .1 i (omega arith) (omega (arith, given .0))), λ e. tt)
 
 pub same-spec : {M : Type 1} → statement M

@@ -2,11 +2,11 @@
 -- Assumes nothing.
 use mathlib.Core.Path.{_≡_, ap}
 use Prim.Native.Nat.{ℕ, _-_}
+use native.Mathlib.Omega.{arith}
 use lib.ListN.{getD}
 use lib.Bits.{bitOr}
 use Rattle.families.proofs.Replacing.{Replaced, replaced-none, replaced-more}
 use Rattle.families.proofs.Families.{united}
-use native.Mathlib.Omega.{arith}
 use Rattle.families.proofs.unite.Statement.{statement}
 use Rattle.families.proofs.unite.Tie as tie
 
@@ -44,7 +44,8 @@ loop-less : tie.Need-loop-less Inv-loop μ-loop
 loop-less c = omega arith
 
 loop-again : tie.Need-loop-again Inv-loop μ-loop
-loop-again c = let l = c .before .before .before .loop in
+loop-again c =
+    let l = c .before .before .before .loop in
     let other = c .before .before .before .before .args .other .now in
     replaced-more _ (l .inv) (omega arith)
     (ap (λ (x : ℕ). bitOr x (getD other (l .w - 1) 0)) (l .inv .kept (l .w - 1) (omega arith)))
