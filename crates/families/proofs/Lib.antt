@@ -1,0 +1,6 @@
+pub mod Replacing
+pub mod Families
+pub mod Gaining
+pub mod Tables
+pub mod MasksOf
+pub mod Writing
