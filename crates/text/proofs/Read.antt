@@ -50,22 +50,3 @@ outcome s = at-length (leb (length s) 256) refl
     at-length : (b : Bool) → leb (length s) 256 ≡ b → Outcome s
     at-length true e = at-parse (leb-true (length s) 256 e) (parseOf 16 (dropped s)) refl (rw e)
     at-length false e = too-long (leb-false (length s) 256 e) (rw e)
-
--- ---- the actions of a text are among the fourteen
-
-spelled-below : {j : ℕ} {x : List ℕ} → Spelled j x → j < 14
-spelled-below (takes i h) = omega arith
-spelled-below (sends i h) = omega arith
-
-pub derived-below : {l : Level} {t : Tree} {x : List ℕ} → Derives l t x → ActionsBelow (termOf t)
-unfolding termOf
-derived-below d-nought = tt
-derived-below (d-variable v h) = tt
-derived-below (d-bare j x h) = (spelled-below h, tt)
-derived-below (d-dotted j t x y h e) = (spelled-below h, derived-below e)
-derived-below (d-bound v t y h e) = derived-below e
-derived-below (d-bracket t x e) = derived-below e
-derived-below (d-one t x e) = derived-below e
-derived-below (d-summed t u x y e f) = (derived-below e, derived-below f)
-derived-below (d-only t x e) = derived-below e
-derived-below (d-chosen t u x y e f) = (derived-below e, derived-below f)

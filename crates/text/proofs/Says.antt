@@ -32,7 +32,8 @@ use Rattle.text.proofs.Variables.{wrong-found}
 use Rattle.text.proofs.Stands.{ActionsBelow}
 use Rattle.text.proofs.Lawful.{places-lawful}
 use Rattle.text.proofs.Words.{states-are-sets, ready-are-sets, same-behind, made-sheet}
-use Rattle.text.proofs.Read.{Outcome, too-long, stopped, at-fault, right, outcome, derived-below}
+use Rattle.text.proofs.Read.{Outcome, too-long, stopped, at-fault, right, outcome}
+use Rattle.text.proofs.Derived.{actions-below}
 
 -- ---- what the sets of places decide
 
@@ -56,7 +57,7 @@ module _ (s : List ℕ) (t : Tree) (is-text : IsText s t) (no-fault : Wrong (ter
   guarded y = no-fault (inr y)
 
   below : ActionsBelow (termOf t)
-  below = derived-below (is-text .derived)
+  below = actions-below (is-text .derived)
 
   abbrev sound-text : IsSound s
   sound-text =
