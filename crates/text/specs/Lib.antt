@@ -5,5 +5,7 @@ pub mod Parser
 pub mod Places
 pub mod Convert
 pub mod Cells
+pub mod Steps
+pub mod Tables
 pub mod Promises
 pub mod Cases
