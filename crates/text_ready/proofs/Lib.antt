@@ -1,1 +1,4 @@
 pub mod Joins
+pub mod Ends
+pub mod Settled
+pub mod Choosing

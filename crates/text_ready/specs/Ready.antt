@@ -1,15 +1,21 @@
 -- What joining a family with the ready sets of a part gives, told the cells of the places.
 -- Assumes nothing.
 use mathlib.Core.Path.{_≡_}
-use mathlib.Core.List.{List, List·Memᴰ}
+use mathlib.Core.List.{List}
 use Prim.Native.Nat.{ℕ, _+_, _<_}
-use lib.ListN.{length}
+use lib.ListN.{length, getD}
 use lib.Dec.{T}
 use Rattle.model.specs.Contract.{has}
 use Rattle.families.specs.Families.{inFamily}
-use Rattle.text.specs.Places.{Sense, Step, senseAt}
-use Rattle.text.specs.Cells.{Explained, cellAt, placeOf}
+use Rattle.text.specs.Places.{Sense, senseAt}
+use Rattle.text.specs.Cells.{Cell, Explained, unpacked, placeOf}
 use Rattle.text_ready.specs.Joined.{Family, Union, Joined, Absorbs, United}
+
+-- a place with an internal choice
+pub record Choice (cells : List ℕ) (p : ℕ) : Type 0 where
+  pub after : 0 < p
+  pub inside : p < length cells
+  pub inner : unpacked (getD cells p 0) .kind ≡ 15
 
 module _ (cells bodies : List ℕ) where
   -- the ready sets of what a link leads to
