@@ -1,21 +1,20 @@
 -- An internal choice gone along to the left: what is united so far and what is left are the whole, joined with the family at the start.
 -- Assumes nothing.
-use mathlib.Core.Path.{_≡_, refl, sym, ap, subst, subst⁻¹, _∙_}
-use mathlib.Core.Bool.{_||_, false}
+use mathlib.Core.Path.{_≡_, sym, ap, subst, subst⁻¹, _∙_}
+use mathlib.Core.Bool.{false}
 use mathlib.Core.Logic.{_↔_, _⊎_, inl, inr, ⊎-elim}
 use mathlib.Core.List.{List, _++_, Memᴰ·append-left, Memᴰ·append-right, List·Memᴰ·append-cases}
-use Prim.Native.Nat.{ℕ, suc, _+_, _/_, _%_, _<_, _≤_}
+use Prim.Native.Nat.{ℕ, _+_, _/_, _%_, _<_, _≤_}
 use native.Mathlib.Omega.{arith}
-use native.Mathlib.Nat.{eq-or-lt-of-le}
 use lib.ListN.{length, getD, replicate, length-replicate, getD-replicate}
 use lib.Dec.{T}
 use Rattle.model.specs.Contract.{has}
 use Rattle.model.proofs.Lists.{or-cases, or-left, or-right}
 use Rattle.model.proofs.Masks.{has-none}
 use Rattle.families.specs.Families.{inFamily}
-use Rattle.text.specs.Places.{Sense, senseAt}
-use Rattle.text.specs.Cells.{Cell, Ends, Explained, cellAt, unpacked}
-use Rattle.text_ready.specs.Joined.{Family, Union, Joined, Absorbs, United}
+use Rattle.text.specs.Places.{Sense}
+use Rattle.text.specs.Cells.{Ends, Explained, cellAt, unpacked}
+use Rattle.text_ready.specs.Joined.{Family, Union, Absorbs}
 use Rattle.text_ready.specs.Ready.{Choice, readyBy, Settled, JoinedBy, Added}
 use Rattle.text_ready.proofs.Joins.{absorbs-either}
 use Rattle.text_ready.proofs.Ends.{weight, lighter, Parts, to-parts}

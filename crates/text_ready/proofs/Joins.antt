@@ -2,13 +2,12 @@
 -- not change it does not change later, since unions can be taken in any order.
 -- Assumes nothing.
 use mathlib.Core.Path.{_≡_, refl, ap, sym, subst, subst⁻¹, _∙_}
-use mathlib.Core.Bool.{Bool, true, false, _||_}
-use mathlib.Core.Logic.{_↔_, _⊎_, inl, inr, ⊎-elim}
-use mathlib.Core.List.{List, [], _∷_, _++_, List·Memᴰ, List·Memᴰ·head, List·Memᴰ·eq-of-singleton, Memᴰ·append-left, Memᴰ·append-right, List·Memᴰ·append-cases}
-use Prim.Native.Nat.{ℕ, _<_, _≤_, _^_}
+use mathlib.Core.Logic.{_⊎_, inl, inr, ⊎-elim}
+use mathlib.Core.List.{List, [], _∷_, _++_, List·Memᴰ·head, List·Memᴰ·eq-of-singleton, Memᴰ·append-left, Memᴰ·append-right, List·Memᴰ·append-cases}
+use Prim.Native.Nat.{ℕ, _<_}
 use native.Mathlib.Omega.{arith}
 use lib.Dec.{T}
-use lib.Bits.{bitOr, bitAnd, or-comm, or-zero-r, or-lt, or-add-and, and-le-l, and-le-r}
+use lib.Bits.{bitOr, or-comm, or-zero-r, or-lt, or-add-and, and-le-r}
 use Rattle.model.specs.Lists.{combine}
 use Rattle.model.specs.Contract.{has}
 use Rattle.model.proofs.Lists.{or-cases, or-left, or-right, combine-intro, combine-elim}

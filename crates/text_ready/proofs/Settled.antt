@@ -2,21 +2,20 @@
 -- Assumes nothing.
 use mathlib.Core.Path.{_≡_, refl, sym, ap, subst, subst⁻¹, _∙_}
 use mathlib.Core.Logic.{⊎-elim}
-use mathlib.Core.List.{List, [], _∷_, List·Memᴰ, List·Memᴰ·head, List·Memᴰ·eq-of-singleton}
-use Prim.Native.Nat.{ℕ, _+_, _-_, _^_, _<_, _≤_}
+use mathlib.Core.List.{List, [], _∷_, List·Memᴰ·head, List·Memᴰ·eq-of-singleton}
+use Prim.Native.Nat.{ℕ, _+_, _-_, _^_, _<_}
 use native.Mathlib.Omega.{arith}
 use lib.ListN.{length, getD}
 use lib.Dec.{T}
 use lib.Bits.{bitOr, bitAnd}
 use borrow.Author.Tests.{lt-ltb, le-ltb}
-use Rattle.model.specs.Lists.{combine}
 use Rattle.model.specs.Contract.{has}
 use Rattle.model.proofs.Lists.{and-both}
 use Rattle.model.proofs.Bits.{has-or-cases, has-and}
 use Rattle.model.proofs.Masks.{power-has}
 use Rattle.families.specs.Families.{inFamily, Forced}
 use Rattle.text.specs.Places.{Sense, senseAt}
-use Rattle.text.specs.Cells.{Cell, Explained, cellAt, unpacked, placeOf}
+use Rattle.text.specs.Cells.{cellAt, unpacked, placeOf}
 use Rattle.text_ready.specs.Joined.{Family, Joined, Absorbs, United}
 use Rattle.text_ready.specs.Ready.{readyBy, Settled, JoinedBy, Added}
 use Rattle.text_ready.proofs.Joins.{joined-end, joined-then, absorbs-on}

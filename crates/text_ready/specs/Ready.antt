@@ -8,8 +8,8 @@ use lib.Dec.{T}
 use Rattle.model.specs.Contract.{has}
 use Rattle.families.specs.Families.{inFamily}
 use Rattle.text.specs.Places.{Sense, senseAt}
-use Rattle.text.specs.Cells.{Cell, Explained, unpacked, placeOf}
-use Rattle.text_ready.specs.Joined.{Family, Union, Joined, Absorbs, United}
+use Rattle.text.specs.Cells.{Explained, unpacked, placeOf}
+use Rattle.text_ready.specs.Joined.{Family, Joined, Absorbs, United}
 
 -- a place with an internal choice
 pub record Choice (cells : List ℕ) (p : ℕ) : Type 0 where

@@ -1,12 +1,16 @@
 // The ready sets of a place, told the cells of all places: a family of masks is joined with each part in turn, so that no two families are
 // ever combined. Request 7/13, "ready sets of + are all unions of one from each side".
 ghost use mathlib.Core.Path.{_≡_};
-ghost use Prim.Native.Nat.{_+_, _^_, _≤_, _<_};
-ghost use lib.ListN.{length};
+ghost use mathlib.Core.List.{List};
+ghost use Prim.Native.Nat.{_+_, _^_, _≤_, _<_, min};
+ghost use lib.ListN.{length, take};
 ghost use lib.Dec.{T};
 ghost use lib.Bits.{bitOr};
 ghost use Rattle.model.specs.Contract.{has};
-ghost use Rattle.text.specs.Cells.{Cell, Ends, unpacked};
+ghost use Rattle.little_endian.specs.Front.{front};
+ghost use Rattle.nodes.specs.Sets.{sorted};
+ghost use Rattle.text.specs.Places.{Sense, senseAt};
+ghost use Rattle.text.specs.Cells.{Cell, Ends, Explained, unpacked};
 ghost use Rattle.text_ready.specs.Ready.{Choice, JoinedBy, Added};
 
 // Above all places: a link from here on leads to the body of a rec.
@@ -178,4 +182,18 @@ fn join(
     }
     let then = join(cells, bodies, left_of(cell), bound, family, recs);
     join(cells, bodies, right_of(cell), bound, family, then)
+}
+
+// The ready sets of a place, ascending, eight of them at most. Gives how many there are, 9 if more than eight.
+pub fn put_ready(cells: &[u32], bodies: &[u16], place: u16, out: &mut [u16]) -> u8
+    requires { ⌜ (length (now bodies) ≤ 64) × (length (now cells) ≤ 256) × (8 ≤ length (now out)) × (place < 256)
+        × Ends (now cells) (now bodies) (length (now bodies)) place ⌝ }
+    ensures { λ r. ⌜ ((senses : List Sense) → Explained (now (cells .entry)) (now (bodies .entry)) senses
+        → (r ≡ min 9 (length (sorted (senseAt senses place .ready))))
+        × (now (out .exit) ≡ front (take 8 (sorted (senseAt senses place .ready))) (now (out .entry)))) ⌝ }
+{
+    let mut family = [0u64; 256];
+    families::only_empty(&mut family);
+    join(cells, bodies, place, bodies.len(), &mut family, 0);
+    families::masks(&family, out)
 }

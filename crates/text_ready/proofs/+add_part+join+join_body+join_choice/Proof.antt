@@ -1,3 +1,7 @@
+-- The proof of the cycle of calls {add_part, join, join_body, join_choice}. A link leads to places below it or to the body of a rec, and from
+-- a body only to recs below it: so a measure is the bound of recs first and then the weight of the link. `join` does what a cell says, by
+-- the laws of Settled; `join_choice` goes along a chain of choices, by those of Choosing.
+-- Assumes nothing.
 use mathlib.Core.Path.{_≡_, refl, sym, ap, subst, subst⁻¹, _∙_}
 use Prim.Native.Nat.{ℕ, _+_, _-_, _*_, _<_}
 use native.Mathlib.Omega.{arith}
@@ -5,10 +9,8 @@ use borrow.Author.Needs.{needs}
 use lib.Dec.{T}
 use lib.ListN.{length, getD}
 use native.Mathlib.Nat.{pos-of-ne-zero}
-use mathlib.Core.List.{List}
-use Rattle.families.specs.Families.{Forced}
 use Rattle.text.specs.Cells.{Ends}
-use Rattle.text_ready.specs.Ready.{Choice, JoinedBy, Added}
+use Rattle.text_ready.specs.Ready.{Choice}
 use Rattle.text_ready.proofs.Ends.{weight, weight-most, lighter, lighter-other, to-body, rec-ends, inside-cells, link-small, parts-at, is-plus}
 use Rattle.text_ready.proofs.Settled.{end-joined, prefix-joined, plus-joined, body-known, body-joined, body-noted, part-added, at-link, from-start, put-back}
 use Rattle.text_ready.proofs.Choosing.{Choosing, choosing-none, choosing-more, choosing-ends, parts-of}
