@@ -1,0 +1,572 @@
+-- The proof of the cycle of calls {add_part, join, join_body, join_choice}. A link leads to places below it or to the body of a rec, and from
+-- a body only to recs below it: so a measure is the bound of recs first and then the weight of the link. `join` does what a cell says, by
+-- the laws of Settled; `join_choice` goes along a chain of choices, by those of Choosing.
+-- Assumes nothing.
+use mathlib.Core.Path.{_≡_, refl, sym, ap, subst, subst⁻¹, _∙_}
+use Prim.Native.Nat.{ℕ, _+_, _-_, _*_, _<_}
+use native.Mathlib.Omega.{arith}
+use borrow.Author.Needs.{needs}
+use lib.Dec.{T}
+use lib.ListN.{length, getD}
+use native.Mathlib.Nat.{pos-of-ne-zero}
+use Rattle.text.specs.Cells.{Ends}
+use Rattle.text_ready.specs.Ready.{Choice}
+use Rattle.text_ready.proofs.Ends.{weight, weight-most, lighter, lighter-other, to-body, rec-ends, inside-cells, link-small, parts-at, is-plus}
+use Rattle.text_ready.proofs.Settled.{end-joined, prefix-joined, plus-joined, body-known, body-joined, body-noted, part-added, at-link, from-start, put-back}
+use Rattle.text_ready.proofs.Choosing.{Choosing, choosing-none, choosing-more, choosing-ends, parts-of}
+use borrow.Fn.Kinds.{In}
+use borrow.Fn.PlainCycle.{Measures, is, falls, and}
+use Rattle.text_ready.proofs.add_part.Reads as add-part
+use Rattle.text_ready.proofs.add_part.Kinds as add-part-kinds
+use Rattle.text_ready.proofs.+add_part+join+join_body+join_choice.Lts-add_part as add-part-lts
+use Rattle.text_ready.proofs.join.Reads as join
+use Rattle.text_ready.proofs.join.Kinds as join-kinds
+use Rattle.text_ready.proofs.+add_part+join+join_body+join_choice.Lts-join as join-lts
+use Rattle.text_ready.proofs.join_body.Reads as join-body
+use Rattle.text_ready.proofs.join_body.Kinds as join-body-kinds
+use Rattle.text_ready.proofs.+add_part+join+join_body+join_choice.Lts-join_body as join-body-lts
+use Rattle.text_ready.proofs.join_choice.Reads as join-choice
+use Rattle.text_ready.proofs.join_choice.Kinds as join-choice-kinds
+use Rattle.text_ready.proofs.+add_part+join+join_body+join_choice.Lts-join_choice as join-choice-lts
+use Rattle.families.proofs.copy.Reads as copy-reads
+use Rattle.families.proofs.gain.Reads as gain-reads
+use Rattle.families.proofs.same.Reads as same-reads
+use Rattle.families.proofs.unite.Reads as unite-reads
+use Rattle.text_ready.proofs.has_rec.Reads as has-rec-reads
+use Rattle.text_ready.proofs.is_choice.Reads as is-choice-reads
+use Rattle.text_ready.proofs.kind_of.Reads as kind-of-reads
+use Rattle.text_ready.proofs.left_of.Reads as left-of-reads
+use Rattle.text_ready.proofs.right_of.Reads as right-of-reads
+use Rattle.text_ready.proofs.with_rec.Reads as with-rec-reads
+use Rattle.text_ready.proofs.+add_part+join+join_body+join_choice.{statement}
+use Rattle.text_ready.proofs.+add_part+join+join_body+join_choice.Tie.{close}
+
+abbrev μ-add-part : Measures 4 add-part-kinds.ps ℕ
+μ-add-part κs a = a .1 .1 .1 .0 * 2048 + (4 * weight (a .1 .1 .0) + 2)
+
+abbrev μ-join : Measures 3 join-kinds.ps ℕ
+μ-join κs a = a .1 .1 .1 .0 * 2048 + (4 * weight (a .1 .1 .0) + 1)
+
+abbrev μ-join-body : Measures 3 join-body-kinds.ps ℕ
+μ-join-body κs a = a .1 .1 .0 * 2048 + 2000
+
+abbrev μ-join-choice : Measures 3 join-choice-kinds.ps ℕ
+μ-join-choice κs a = a .1 .1 .1 .0 * 2048 + 4 * weight (a .1 .1 .0)
+
+abbrev add-part-at : ℕ → In 4 add-part-kinds.ps
+add-part-at t = and 4 add-part-kinds.ps (is 4 add-part-kinds.ps μ-add-part t) add-part.Pre
+
+abbrev add-part-below : ℕ → In 4 add-part-kinds.ps
+add-part-below t =
+    and 4 add-part-kinds.ps (falls 4 add-part-kinds.ps _<_ μ-add-part t) add-part.Pre
+
+abbrev join-at : ℕ → In 3 join-kinds.ps
+join-at t = and 3 join-kinds.ps (is 3 join-kinds.ps μ-join t) join.Pre
+
+abbrev join-below : ℕ → In 3 join-kinds.ps
+join-below t = and 3 join-kinds.ps (falls 3 join-kinds.ps _<_ μ-join t) join.Pre
+
+abbrev join-body-at : ℕ → In 3 join-body-kinds.ps
+join-body-at t = and 3 join-body-kinds.ps (is 3 join-body-kinds.ps μ-join-body t) join-body.Pre
+
+abbrev join-body-below : ℕ → In 3 join-body-kinds.ps
+join-body-below t =
+    and 3 join-body-kinds.ps (falls 3 join-body-kinds.ps _<_ μ-join-body t) join-body.Pre
+
+abbrev join-choice-at : ℕ → In 3 join-choice-kinds.ps
+join-choice-at t =
+    and 3 join-choice-kinds.ps (is 3 join-choice-kinds.ps μ-join-choice t) join-choice.Pre
+
+abbrev join-choice-below : ℕ → In 3 join-choice-kinds.ps
+join-choice-below t =
+    and 3 join-choice-kinds.ps (falls 3 join-choice-kinds.ps _<_ μ-join-choice t) join-choice.Pre
+
+abbrev add-part-claims : ℕ → add-part-lts.Claims
+add-part-claims t = (
+  copy-reads.Asked,
+  copy-reads.Learnt,
+  join-below t,
+  join.Post,
+  unite-reads.Asked,
+  unite-reads.Learnt,
+)
+
+abbrev join-claims : ℕ → join-lts.Claims
+join-claims t = (
+  join-body-below t,
+  join-body.Post,
+  kind-of-reads.Asked,
+  kind-of-reads.Learnt,
+  gain-reads.Asked,
+  gain-reads.Learnt,
+  join-choice-below t,
+  join-choice.Post,
+  left-of-reads.Asked,
+  left-of-reads.Learnt,
+  join-below t,
+  join.Post,
+  right-of-reads.Asked,
+  right-of-reads.Learnt,
+)
+
+abbrev join-body-claims : ℕ → join-body-lts.Claims
+join-body-claims t = (
+  has-rec-reads.Asked,
+  has-rec-reads.Learnt,
+  copy-reads.Asked,
+  copy-reads.Learnt,
+  join-below t,
+  join.Post,
+  same-reads.Asked,
+  same-reads.Learnt,
+  with-rec-reads.Asked,
+  with-rec-reads.Learnt,
+)
+
+abbrev join-choice-claims : ℕ → join-choice-lts.Claims
+join-choice-claims t = (
+  copy-reads.Asked,
+  copy-reads.Learnt,
+  is-choice-reads.Asked,
+  is-choice-reads.Learnt,
+  right-of-reads.Asked,
+  right-of-reads.Learnt,
+  add-part-below t,
+  add-part.Post,
+  left-of-reads.Asked,
+  left-of-reads.Learnt,
+)
+
+add-part-slice-aggregate-copy : (t : ℕ) → add-part-lts.Need-slice-aggregate-copy (add-part-claims t) (add-part-at t) add-part.Post
+add-part-slice-aggregate-copy t c = search needs
+
+add-part-copy-requires : (t : ℕ) → add-part-lts.Need-copy-requires (add-part-claims t) (add-part-at t) add-part.Post
+add-part-copy-requires t c κs = search needs
+
+add-part-slice-aggregate-join : (t : ℕ) → add-part-lts.Need-slice-aggregate-join (add-part-claims t) (add-part-at t) add-part.Post
+add-part-slice-aggregate-join t c = search needs
+
+add-part-join-requires : (t : ℕ) → add-part-lts.Need-join-requires (add-part-claims t) (add-part-at t) add-part.Post
+add-part-join-requires t c κs = search needs
+
+add-part-slice-aggregate-unite : (t : ℕ) → add-part-lts.Need-slice-aggregate-unite (add-part-claims t) (add-part-at t) add-part.Post
+add-part-slice-aggregate-unite t c = search needs
+
+add-part-unite-requires : (t : ℕ) → add-part-lts.Need-unite-requires (add-part-claims t) (add-part-at t) add-part.Post
+add-part-unite-requires t c κs = search needs
+
+add-part-same-length : (t : ℕ) → add-part-lts.Need-same-length (add-part-claims t) (add-part-at t) add-part.Post
+add-part-same-length t c = search needs
+
+add-part-returns : (t : ℕ) → add-part-lts.Need-returns (add-part-claims t) (add-part-at t) add-part.Post
+add-part-returns t c =
+    let s = c .before .before .before .before .before .before .before .before .before .before .before .before .before .before .before in
+    let a = s .args in
+    let copied = c .before .before .before .before .before .before .before .before .before .copy .ensures in
+    let united = c .before .before .unite .ensures in
+    part-added (a .cells .now) (a .bodies .now) (a .link) (a .recs) (a .kept) (c .before .before .before .before .before .before .join .result)
+    (from-start (a .cells .now) (a .bodies .now) copied (c .before .before .before .before .before .before .join .ensures)) (united .0) (united .1)
+
+join-cast-join-body : (t : ℕ) → join-lts.Need-cast-join-body (join-claims t) (join-at t) join.Post
+join-cast-join-body t c = search needs
+
+join-join-body-requires : (t : ℕ) → join-lts.Need-join-body-requires (join-claims t) (join-at t) join.Post
+join-join-body-requires t c κs =
+    let s = c .before .before .before .before .before in
+    let a = s .args in
+    let back : 256 + (a .link - 256) ≡ a .link = omega (arith, c .before .if1 .taken) in
+    let body = to-body (a .cells .now) (a .bodies .now) (a .bound) (a .link - 256) (s .pre .1 .3) (sym back) in
+    let at : a .bound * 2048 + (4 * weight (a .link) + 1) ≡ t = s .pre .0 in
+    let below : a .link - 256 < a .bound = body .below in
+    (omega (arith, at, below), (s .pre .1 .0, s .pre .1 .1, s .pre .1 .2, rec-ends (a .cells .now) (a .bodies .now) body))
+
+join-same-length : (t : ℕ) → join-lts.Need-same-length (join-claims t) (join-at t) join.Post
+join-same-length t c = search needs
+
+join-returns : (t : ℕ) → join-lts.Need-returns (join-claims t) (join-at t) join.Post
+join-returns t c =
+    let s = c .before .before .before .before .before .before .before .before in
+    let a = s .args in
+    let back : 256 + (a .link - 256) ≡ a .link = omega (arith, c .before .before .before .before .if1 .taken) in
+    at-link (a .cells .now) (a .bodies .now) back (c .before .before .join-body .ensures)
+
+join-returns-2 : (t : ℕ) → join-lts.Need-returns-2 (join-claims t) (join-at t) join.Post
+join-returns-2 t c =
+    let s = c .before .before .before .before .before in
+    let a = s .args in
+    at-link (a .cells .now) (a .bodies .now) (sym (c .if2 .taken)) (end-joined (a .cells .now) (a .bodies .now) (a .recs) (s .pre .1 .2))
+
+join-mul-cell : (t : ℕ) → join-lts.Need-mul-cell (join-claims t) (join-at t) join.Post
+join-mul-cell t c = search needs
+
+join-shared-slice-read-cell : (t : ℕ) → join-lts.Need-shared-slice-read-cell (join-claims t) (join-at t) join.Post
+join-shared-slice-read-cell t c =
+    let s = c .before .before .before .before .before .before in
+    let a = s .args in
+    inside-cells (a .cells .now) (a .bodies .now) (s .pre .1 .3) (pos-of-ne-zero (c .before .if2 .left)) (c .before .before .if1 .left)
+
+join-kind-of-requires : (t : ℕ) → join-lts.Need-kind-of-requires (join-claims t) (join-at t) join.Post
+join-kind-of-requires t c κs = search needs
+
+join-gain-requires : (t : ℕ) → join-lts.Need-gain-requires (join-claims t) (join-at t) join.Post
+join-gain-requires t c κs = search needs
+
+join-same-length-2 : (t : ℕ) → join-lts.Need-same-length-2 (join-claims t) (join-at t) join.Post
+join-same-length-2 t c = search needs
+
+join-returns-3 : (t : ℕ) → join-lts.Need-returns-3 (join-claims t) (join-at t) join.Post
+join-returns-3 t c =
+    let s = c .before .before .before .before .before .before .before .before .before .before .before .before in
+    let a = s .args in
+    let some = pos-of-ne-zero (c .before .before .before .before .before .before .before .if2 .left) in
+    let small = c .before .before .before .before .before .before .before .before .if1 .left in
+    let is = c .before .before .before .before .before .kind-of .ensures in
+    let forced = c .before .before .gain .ensures in
+    prefix-joined (a .cells .now) (a .bodies .now) (a .link) (a .recs) some small (inside-cells (a .cells .now) (a .bodies .now) (s .pre .1 .3) some small)
+    is (c .before .before .before .before .if3 .taken) (forced .0) (forced .1)
+
+join-join-choice-requires : (t : ℕ) → join-lts.Need-join-choice-requires (join-claims t) (join-at t) join.Post
+join-join-choice-requires t c κs =
+    let s = c .before .before .before .before .before .before .before .before .before .before in
+    let a = s .args in
+    let some = pos-of-ne-zero (c .before .before .before .before .before .if2 .left) in
+    let small = c .before .before .before .before .before .before .if1 .left in
+    let at : a .bound * 2048 + (4 * weight (a .link) + 1) ≡ t = s .pre .0 in
+    let choice : Choice (a .cells .now) (a .link) =
+    record { after = some; inside = inside-cells (a .cells .now) (a .bodies .now) (s .pre .1 .3) some small; inner = sym (c .before .before .before .kind-of .ensures) ∙ c .before .if4 .taken } in
+    (omega (arith, at), (s .pre .1 .0, s .pre .1 .1, s .pre .1 .2, s .pre .1 .3, choice))
+
+join-same-length-3 : (t : ℕ) → join-lts.Need-same-length-3 (join-claims t) (join-at t) join.Post
+join-same-length-3 t c = search needs
+
+join-returns-4 : (t : ℕ) → join-lts.Need-returns-4 (join-claims t) (join-at t) join.Post
+join-returns-4 t c = search needs
+
+join-left-of-requires : (t : ℕ) → join-lts.Need-left-of-requires (join-claims t) (join-at t) join.Post
+join-left-of-requires t c κs = search needs
+
+join-join-requires : (t : ℕ) → join-lts.Need-join-requires (join-claims t) (join-at t) join.Post
+join-join-requires t c κs =
+    let s = c .before .before .before .before .before .before .before .before .before .before .before in
+    let a = s .args in
+    let small = c .before .before .before .before .before .before .before .if1 .left in
+    let parts = parts-at (a .cells .now) (a .bodies .now) (s .pre .1 .3) (c .before .before .before .before .before .before .if2 .left) small (c .before .before .before .before .kind-of .ensures) (c .before .before .before .if3 .left) in
+    let is = c .before .left-of .ensures in
+    let at : a .bound * 2048 + (4 * weight (a .link) + 1) ≡ t = s .pre .0 in
+    let less = lighter (a .link) _ small (parts .left-falls) in
+    (omega (arith, at, less, ap weight is), (s .pre .1 .0, s .pre .1 .1, s .pre .1 .2, subst⁻¹ (Ends (a .cells .now) (a .bodies .now) (a .bound)) is (parts .left-ends)))
+
+join-right-of-requires : (t : ℕ) → join-lts.Need-right-of-requires (join-claims t) (join-at t) join.Post
+join-right-of-requires t c κs =
+    let s = c .before .before .before .before .before .before .before .before .before .before .before .before .before .before in
+    let a = s .args in
+    let small = c .before .before .before .before .before .before .before .before .before .before .if1 .left in
+    let parts = parts-at (a .cells .now) (a .bodies .now) (s .pre .1 .3) (c .before .before .before .before .before .before .before .before .before .if2 .left) small (c .before .before .before .before .before .before .before .kind-of .ensures) (c .before .before .before .before .before .before .if3 .left) in
+    omega (arith, link-small (a .cells .now) (a .bodies .now) (parts .right-ends) (s .pre .1 .0))
+
+join-join-requires-2 : (t : ℕ) → join-lts.Need-join-requires-2 (join-claims t) (join-at t) join.Post
+join-join-requires-2 t c κs =
+    let s = c .before .before .before .before .before .before .before .before .before .before .before .before .before .before .before .before in
+    let a = s .args in
+    let small = c .before .before .before .before .before .before .before .before .before .before .before .before .if1 .left in
+    let parts = parts-at (a .cells .now) (a .bodies .now) (s .pre .1 .3) (c .before .before .before .before .before .before .before .before .before .before .before .if2 .left) small (c .before .before .before .before .before .before .before .before .before .kind-of .ensures) (c .before .before .before .before .before .before .before .before .if3 .left) in
+    let is = c .before .right-of .ensures in
+    let at : a .bound * 2048 + (4 * weight (a .link) + 1) ≡ t = s .pre .0 in
+    let less = lighter (a .link) _ small (parts .right-falls) in
+    (omega (arith, at, less, ap weight is), (s .pre .1 .0, s .pre .1 .1, c .before .before .before .before .join .ensures .room, subst⁻¹ (Ends (a .cells .now) (a .bodies .now) (a .bound)) is (parts .right-ends)))
+
+join-same-length-4 : (t : ℕ) → join-lts.Need-same-length-4 (join-claims t) (join-at t) join.Post
+join-same-length-4 t c = search needs
+
+join-returns-5 : (t : ℕ) → join-lts.Need-returns-5 (join-claims t) (join-at t) join.Post
+join-returns-5 t c =
+    let s = c .before .before .before .before .before .before .before .before .before .before .before .before .before .before .before .before .before .before .before in
+    let a = s .args in
+    let some = pos-of-ne-zero (c .before .before .before .before .before .before .before .before .before .before .before .before .before .before .if2 .left) in
+    let small = c .before .before .before .before .before .before .before .before .before .before .before .before .before .before .before .if1 .left in
+    let plus = is-plus (getD (a .cells .now) (a .link) 0) (c .before .before .before .before .before .before .before .before .before .before .before .before .kind-of .ensures) (c .before .before .before .before .before .before .before .before .before .before .before .if3 .left) (c .before .before .before .before .before .before .before .before .before .before .if4 .left) in
+    plus-joined (a .cells .now) (a .bodies .now) (a .link) (a .recs) (c .before .before .before .before .before .before .before .join .result) (c .before .before .join2 .result) some small (inside-cells (a .cells .now) (a .bodies .now) (s .pre .1 .3) some small) plus
+    (at-link (a .cells .now) (a .bodies .now) (c .before .before .before .before .before .before .before .before .before .left-of .ensures) (c .before .before .before .before .before .before .before .join .ensures)) (at-link (a .cells .now) (a .bodies .now) (c .before .before .before .before .right-of .ensures) (c .before .before .join2 .ensures))
+
+join-body-has-rec-requires : (t : ℕ) → join-body-lts.Need-has-rec-requires (join-body-claims t) (join-body-at t) join-body.Post
+join-body-has-rec-requires t c κs =
+    let s = c .before .before .before in
+    let a = s .args in
+    let body = to-body (a .cells .now) (a .bodies .now) (a .r + 1) (a .r) (s .pre .1 .3) refl in
+    omega (arith, body .inside, s .pre .1 .0)
+
+join-body-returns : (t : ℕ) → join-body-lts.Need-returns (join-body-claims t) (join-body-at t) join-body.Post
+join-body-returns t c =
+    let s = c .before .before .before .before .before in
+    let a = s .args in
+    let body = to-body (a .cells .now) (a .bodies .now) (a .r + 1) (a .r) (s .pre .1 .3) refl in
+    body-known (a .cells .now) (a .bodies .now) (a .r) (a .recs) (omega (arith, body .inside, s .pre .1 .0)) (subst T (sym (c .if1 .taken) ∙ c .before .has-rec .ensures) tt) (s .pre .1 .2)
+
+join-body-slice-aggregate-copy : (t : ℕ) → join-body-lts.Need-slice-aggregate-copy (join-body-claims t) (join-body-at t) join-body.Post
+join-body-slice-aggregate-copy t c = search needs
+
+join-body-copy-requires : (t : ℕ) → join-body-lts.Need-copy-requires (join-body-claims t) (join-body-at t) join-body.Post
+join-body-copy-requires t c κs = search needs
+
+join-body-mul-join : (t : ℕ) → join-body-lts.Need-mul-join (join-body-claims t) (join-body-at t) join-body.Post
+join-body-mul-join t c =
+    let s = c .before .before .before .before .before .before .before .before .before in
+    let a = s .args in
+    let body = to-body (a .cells .now) (a .bodies .now) (a .r + 1) (a .r) (s .pre .1 .3) refl in
+    omega (arith, body .inside, s .pre .1 .0)
+
+join-body-shared-slice-read-join : (t : ℕ) → join-body-lts.Need-shared-slice-read-join (join-body-claims t) (join-body-at t) join-body.Post
+join-body-shared-slice-read-join t c =
+    let s = c .before .before .before .before .before .before .before .before .before .before in
+    let a = s .args in
+    let body = to-body (a .cells .now) (a .bodies .now) (a .r + 1) (a .r) (s .pre .1 .3) refl in
+    body .inside
+
+join-body-join-requires : (t : ℕ) → join-body-lts.Need-join-requires (join-body-claims t) (join-body-at t) join-body.Post
+join-body-join-requires t c κs =
+    let s = c .before .before .before .before .before .before .before .before .before .before .before in
+    let a = s .args in
+    let body = to-body (a .cells .now) (a .bodies .now) (a .r + 1) (a .r) (s .pre .1 .3) refl in
+    let at : a .r * 2048 + 2000 ≡ t = s .pre .0 in
+    (omega (arith, at, weight-most (getD (a .bodies .now) (a .r) 0)), (s .pre .1 .0, s .pre .1 .1, s .pre .1 .2, body .ends))
+
+join-body-slice-aggregate-same : (t : ℕ) → join-body-lts.Need-slice-aggregate-same (join-body-claims t) (join-body-at t) join-body.Post
+join-body-slice-aggregate-same t c = search needs
+
+join-body-same-requires : (t : ℕ) → join-body-lts.Need-same-requires (join-body-claims t) (join-body-at t) join-body.Post
+join-body-same-requires t c κs = search needs
+
+join-body-with-rec-requires : (t : ℕ) → join-body-lts.Need-with-rec-requires (join-body-claims t) (join-body-at t) join-body.Post
+join-body-with-rec-requires t c κs =
+    let s = c .before .before .before .before .before .before .before .before .before .before .before .before .before .before .before .before .before .before in
+    let a = s .args in
+    let body = to-body (a .cells .now) (a .bodies .now) (a .r + 1) (a .r) (s .pre .1 .3) refl in
+    omega (arith, body .inside, s .pre .1 .0)
+
+join-body-same-length : (t : ℕ) → join-body-lts.Need-same-length (join-body-claims t) (join-body-at t) join-body.Post
+join-body-same-length t c = search needs
+
+join-body-returns-2 : (t : ℕ) → join-body-lts.Need-returns-2 (join-body-claims t) (join-body-at t) join-body.Post
+join-body-returns-2 t c =
+    let s = c .before .before .before .before .before .before .before .before .before .before .before .before .before .before .before .before .before .before .before in
+    let a = s .args in
+    let body = to-body (a .cells .now) (a .bodies .now) (a .r + 1) (a .r) (s .pre .1 .3) refl in
+    let same = sym (c .before .before .before .before .before .before .before .before .before .before .before .copy .ensures) ∙ c .before .before .same .ensures .0 (subst⁻¹ T (c .before .if2 .taken) tt) in
+    body-noted (a .cells .now) (a .bodies .now) (a .r) (a .recs) (c .before .before .before .before .before .before .before .join .result) (c .with-rec .ensures) same
+    (body-joined (a .cells .now) (a .bodies .now) (a .r) (a .recs) (c .before .before .before .before .before .before .before .join .result) (body .place) (c .before .before .before .before .before .before .before .join .ensures))
+
+join-body-same-length-2 : (t : ℕ) → join-body-lts.Need-same-length-2 (join-body-claims t) (join-body-at t) join-body.Post
+join-body-same-length-2 t c = search needs
+
+join-body-returns-3 : (t : ℕ) → join-body-lts.Need-returns-3 (join-body-claims t) (join-body-at t) join-body.Post
+join-body-returns-3 t c =
+    let s = c .before .before .before .before .before .before .before .before .before .before .before .before .before .before .before .before .before .before in
+    let a = s .args in
+    let body = to-body (a .cells .now) (a .bodies .now) (a .r + 1) (a .r) (s .pre .1 .3) refl in
+    body-joined (a .cells .now) (a .bodies .now) (a .r) (a .recs) (c .before .before .before .before .before .before .join .result) (body .place) (c .before .before .before .before .before .before .join .ensures)
+
+abbrev join-choice-Inv-loop : join-choice-lts.InvT-loop
+join-choice-Inv-loop cells bodies place bound family recs start all₀ kept₀ at₀ all kept at = Choosing cells bodies place bound recs start all kept at
+
+abbrev join-choice-μ-loop : join-choice-lts.MeasureT-loop
+join-choice-μ-loop cells bodies place bound family recs start all₀ kept₀ at₀ all kept at = weight at
+
+join-choice-slice-aggregate-copy : (t : ℕ) → join-choice-lts.Need-slice-aggregate-copy (join-choice-claims t) (join-choice-at t) join-choice.Post join-choice-Inv-loop join-choice-μ-loop
+join-choice-slice-aggregate-copy t c = search needs
+
+join-choice-copy-requires : (t : ℕ) → join-choice-lts.Need-copy-requires (join-choice-claims t) (join-choice-at t) join-choice.Post join-choice-Inv-loop join-choice-μ-loop
+join-choice-copy-requires t c κs = search needs
+
+join-choice-loop-holds : (t : ℕ) → join-choice-lts.Need-loop-holds (join-choice-claims t) (join-choice-at t) join-choice.Post join-choice-Inv-loop join-choice-μ-loop
+join-choice-loop-holds t c =
+    let s = c .before .before .before .before .before .before .before in
+    let a = s .args in
+    choosing-none (a .cells .now) (a .bodies .now) (a .place) (a .bound) (a .recs) _ (s .pre .1 .3)
+
+join-choice-is-choice-requires : (t : ℕ) → join-choice-lts.Need-is-choice-requires (join-choice-claims t) (join-choice-at t) join-choice.Post join-choice-Inv-loop join-choice-μ-loop
+join-choice-is-choice-requires t c κs = search needs
+
+join-choice-cast-cell : (t : ℕ) → join-choice-lts.Need-cast-cell (join-choice-claims t) (join-choice-at t) join-choice.Post join-choice-Inv-loop join-choice-μ-loop
+join-choice-cast-cell t c =
+    let s = c .before .before .before .before .before .before .before .before .before .before in
+    let a = s .args in
+    omega (arith, link-small (a .cells .now) (a .bodies .now) (c .before .before .loop .inv .ends) (s .pre .1 .0))
+
+join-choice-mul-cell : (t : ℕ) → join-choice-lts.Need-mul-cell (join-choice-claims t) (join-choice-at t) join-choice.Post join-choice-Inv-loop join-choice-μ-loop
+join-choice-mul-cell t c =
+    let s = c .before .before .before .before .before .before .before .before .before .before in
+    let a = s .args in
+    omega (arith, link-small (a .cells .now) (a .bodies .now) (c .before .before .loop .inv .ends) (s .pre .1 .0))
+
+join-choice-shared-slice-read-cell : (t : ℕ) → join-choice-lts.Need-shared-slice-read-cell (join-choice-claims t) (join-choice-at t) join-choice.Post join-choice-Inv-loop join-choice-μ-loop
+join-choice-shared-slice-read-cell t c =
+    let s = c .before .before .before .before .before .before .before .before .before .before .before in
+    let a = s .args in
+    let choice = c .before .before .is-choice .ensures .0 (subst⁻¹ T (c .before .if1 .taken) tt) in
+    choice .inside
+
+join-choice-right-of-requires : (t : ℕ) → join-choice-lts.Need-right-of-requires (join-choice-claims t) (join-choice-at t) join-choice.Post join-choice-Inv-loop join-choice-μ-loop
+join-choice-right-of-requires t c κs =
+    let s = c .before .before .before .before .before .before .before .before .before .before .before in
+    let a = s .args in
+    let choice = c .before .before .is-choice .ensures .0 (subst⁻¹ T (c .before .if1 .taken) tt) in
+    let small : c .before .before .before .loop .at < 256 = omega (arith, choice .inside, s .pre .1 .1) in
+    let parts = parts-of (a .cells .now) (a .bodies .now) (c .before .before .before .loop .inv .ends) choice small in
+    omega (arith, link-small (a .cells .now) (a .bodies .now) (parts .right-ends) (s .pre .1 .0))
+
+join-choice-slice-aggregate-add-part : (t : ℕ) → join-choice-lts.Need-slice-aggregate-add-part (join-choice-claims t) (join-choice-at t) join-choice.Post join-choice-Inv-loop join-choice-μ-loop
+join-choice-slice-aggregate-add-part t c = search needs
+
+join-choice-slice-aggregate-add-part-2 : (t : ℕ) → join-choice-lts.Need-slice-aggregate-add-part-2 (join-choice-claims t) (join-choice-at t) join-choice.Post join-choice-Inv-loop join-choice-μ-loop
+join-choice-slice-aggregate-add-part-2 t c = search needs
+
+join-choice-add-part-requires : (t : ℕ) → join-choice-lts.Need-add-part-requires (join-choice-claims t) (join-choice-at t) join-choice.Post join-choice-Inv-loop join-choice-μ-loop
+join-choice-add-part-requires t c κs =
+    let s = c .before .before .before .before .before .before .before .before .before .before .before .before .before .before in
+    let a = s .args in
+    let choice = c .before .before .before .before .before .is-choice .ensures .0 (subst⁻¹ T (c .before .before .before .before .if1 .taken) tt) in
+    let small : c .before .before .before .before .before .before .loop .at < 256 = omega (arith, choice .inside, s .pre .1 .1) in
+    let parts = parts-of (a .cells .now) (a .bodies .now) (c .before .before .before .before .before .before .loop .inv .ends) choice small in
+    let is = c .before .before .right-of .ensures in
+    let at : a .bound * 2048 + 4 * weight (a .place) ≡ t = s .pre .0 in
+    let less = lighter (c .before .before .before .before .before .before .loop .at) _ small (parts .right-falls) in (
+      omega (arith, at, less, ap weight is, c .before .before .before .before .before .before .loop .inv .falls),
+      (s .pre .1 .0, s .pre .1 .1, ap length (c .before .before .before .before .before .before .before .before .copy .ensures) ∙ s .pre .1 .2, c .before .before .before .before .before .before .loop .inv .room, subst⁻¹ (Ends (a .cells .now) (a .bodies .now) (a .bound)) is (parts .right-ends)),
+    )
+
+join-choice-left-of-requires : (t : ℕ) → join-choice-lts.Need-left-of-requires (join-choice-claims t) (join-choice-at t) join-choice.Post join-choice-Inv-loop join-choice-μ-loop
+join-choice-left-of-requires t c κs = search needs
+
+join-choice-loop-less : (t : ℕ) → join-choice-lts.Need-loop-less (join-choice-claims t) (join-choice-at t) join-choice.Post join-choice-Inv-loop join-choice-μ-loop
+join-choice-loop-less t c =
+    let s = c .before .before .before .before .before .before .before .before .before .before .before .before .before .before .before .before .before in
+    let a = s .args in
+    let choice = c .before .before .before .before .before .before .before .before .is-choice .ensures .0 (subst⁻¹ T (c .before .before .before .before .before .before .before .if1 .taken) tt) in
+    let small : c .before .before .before .before .before .before .before .before .before .loop .at < 256 = omega (arith, choice .inside, s .pre .1 .1) in
+    let parts = parts-of (a .cells .now) (a .bodies .now) (c .before .before .before .before .before .before .before .before .before .loop .inv .ends) choice small in
+    let less = lighter (c .before .before .before .before .before .before .before .before .before .loop .at) _ small (parts .left-falls) in
+    subst⁻¹ (λ (x : ℕ). weight x < weight (c .before .before .before .before .before .before .before .before .before .loop .at)) (c .left-of .ensures) less
+
+join-choice-loop-again : (t : ℕ) → join-choice-lts.Need-loop-again (join-choice-claims t) (join-choice-at t) join-choice.Post join-choice-Inv-loop join-choice-μ-loop
+join-choice-loop-again t c =
+    let s = c .before .before .before .before .before .before .before .before .before .before .before .before .before .before .before .before .before in
+    let a = s .args in
+    let choice = c .before .before .before .before .before .before .before .before .is-choice .ensures .0 (subst⁻¹ T (c .before .before .before .before .before .before .before .if1 .taken) tt) in
+    let small : c .before .before .before .before .before .before .before .before .before .loop .at < 256 = omega (arith, choice .inside, s .pre .1 .1) in
+    choosing-more (a .cells .now) (a .bodies .now) (c .before .before .before .before .before .before .before .before .before .loop .inv) choice small (c .left-of .ensures) (c .before .before .before .before .before .right-of .ensures) (c .before .before .add-part .ensures)
+
+join-choice-slice-aggregate-add-part-3 : (t : ℕ) → join-choice-lts.Need-slice-aggregate-add-part-3 (join-choice-claims t) (join-choice-at t) join-choice.Post join-choice-Inv-loop join-choice-μ-loop
+join-choice-slice-aggregate-add-part-3 t c = search needs
+
+join-choice-slice-aggregate-add-part-4 : (t : ℕ) → join-choice-lts.Need-slice-aggregate-add-part-4 (join-choice-claims t) (join-choice-at t) join-choice.Post join-choice-Inv-loop join-choice-μ-loop
+join-choice-slice-aggregate-add-part-4 t c = search needs
+
+join-choice-add-part-requires-2 : (t : ℕ) → join-choice-lts.Need-add-part-requires-2 (join-choice-claims t) (join-choice-at t) join-choice.Post join-choice-Inv-loop join-choice-μ-loop
+join-choice-add-part-requires-2 t c κs =
+    let s = c .before .before .before .before .before .before .before .before .before .before .before .before in
+    let a = s .args in
+    let at : a .bound * 2048 + 4 * weight (a .place) ≡ t = s .pre .0 in
+    let small : a .place < 256 = omega (arith, s .pre .1 .4 .inside, s .pre .1 .1) in
+    let other : c .before .before .before .before .loop .at ≡ a .place → ⊥ = λ e. subst T (c .before .before .if1 .left) (c .before .before .before .is-choice .ensures .1 (subst⁻¹ (Choice (a .cells .now)) e (s .pre .1 .4))) in
+    let less = lighter-other (a .place) (c .before .before .before .before .loop .at) small (c .before .before .before .before .loop .inv .falls) other in
+    (omega (arith, at, less), (s .pre .1 .0, s .pre .1 .1, ap length (c .before .before .before .before .before .before .copy .ensures) ∙ s .pre .1 .2, c .before .before .before .before .loop .inv .room, c .before .before .before .before .loop .inv .ends))
+
+join-choice-slice-aggregate-copy-2 : (t : ℕ) → join-choice-lts.Need-slice-aggregate-copy-2 (join-choice-claims t) (join-choice-at t) join-choice.Post join-choice-Inv-loop join-choice-μ-loop
+join-choice-slice-aggregate-copy-2 t c = search needs
+
+join-choice-copy-requires-2 : (t : ℕ) → join-choice-lts.Need-copy-requires-2 (join-choice-claims t) (join-choice-at t) join-choice.Post join-choice-Inv-loop join-choice-μ-loop
+join-choice-copy-requires-2 t c κs = search needs
+
+join-choice-same-length : (t : ℕ) → join-choice-lts.Need-same-length (join-choice-claims t) (join-choice-at t) join-choice.Post join-choice-Inv-loop join-choice-μ-loop
+join-choice-same-length t c = search needs
+
+join-choice-returns : (t : ℕ) → join-choice-lts.Need-returns (join-choice-claims t) (join-choice-at t) join-choice.Post join-choice-Inv-loop join-choice-μ-loop
+join-choice-returns t c =
+    let s = c .before .before .before .before .before .before .before .before .before .before .before .before .before .before .before .before .before .before .before in
+    let a = s .args in
+    put-back (a .cells .now) (a .bodies .now) (c .before .before .copy2 .ensures) (from-start (a .cells .now) (a .bodies .now) (c .before .before .before .before .before .before .before .before .before .before .before .before .before .copy .ensures)
+    (choosing-ends (a .cells .now) (a .bodies .now) (c .before .before .before .before .before .before .before .before .before .before .before .loop .inv) (c .before .before .before .before .before .before .add-part2 .ensures)))
+
+pub +add-part+join+join-body+join-choice-spec : {M : Type 1} → statement M
++add-part+join+join-body+join-choice-spec =
+    close μ-add-part μ-join μ-join-body μ-join-choice (λ t. add-part-lts.spec
+    (add-part-claims t)
+    (add-part-at t)
+    add-part.Post
+    (add-part-slice-aggregate-copy t)
+    (add-part-copy-requires t)
+    (add-part-slice-aggregate-join t)
+    (add-part-join-requires t)
+    (add-part-slice-aggregate-unite t)
+    (add-part-unite-requires t)
+    (add-part-same-length t)
+    (add-part-returns t))
+    (λ t. join-lts.spec
+    (join-claims t)
+    (join-at t)
+    join.Post
+    (join-cast-join-body t)
+    (join-join-body-requires t)
+    (join-same-length t)
+    (join-returns t)
+    (join-returns-2 t)
+    (join-mul-cell t)
+    (join-shared-slice-read-cell t)
+    (join-kind-of-requires t)
+    (join-gain-requires t)
+    (join-same-length-2 t)
+    (join-returns-3 t)
+    (join-join-choice-requires t)
+    (join-same-length-3 t)
+    (join-returns-4 t)
+    (join-left-of-requires t)
+    (join-join-requires t)
+    (join-right-of-requires t)
+    (join-join-requires-2 t)
+    (join-same-length-4 t)
+    (join-returns-5 t))
+    (λ t. join-body-lts.spec
+    (join-body-claims t)
+    (join-body-at t)
+    join-body.Post
+    (join-body-has-rec-requires t)
+    (join-body-returns t)
+    (join-body-slice-aggregate-copy t)
+    (join-body-copy-requires t)
+    (join-body-mul-join t)
+    (join-body-shared-slice-read-join t)
+    (join-body-join-requires t)
+    (join-body-slice-aggregate-same t)
+    (join-body-same-requires t)
+    (join-body-with-rec-requires t)
+    (join-body-same-length t)
+    (join-body-returns-2 t)
+    (join-body-same-length-2 t)
+    (join-body-returns-3 t))
+    λ t. join-choice-lts.spec
+    (join-choice-claims t)
+    (join-choice-at t)
+    join-choice.Post
+    join-choice-Inv-loop
+    join-choice-μ-loop
+    (join-choice-slice-aggregate-copy t)
+    (join-choice-copy-requires t)
+    (join-choice-loop-holds t)
+    (join-choice-is-choice-requires t)
+    (join-choice-cast-cell t)
+    (join-choice-mul-cell t)
+    (join-choice-shared-slice-read-cell t)
+    (join-choice-right-of-requires t)
+    (join-choice-slice-aggregate-add-part t)
+    (join-choice-slice-aggregate-add-part-2 t)
+    (join-choice-add-part-requires t)
+    (join-choice-left-of-requires t)
+    (join-choice-loop-less t)
+    (join-choice-loop-again t)
+    (join-choice-slice-aggregate-add-part-3 t)
+    (join-choice-slice-aggregate-add-part-4 t)
+    (join-choice-add-part-requires-2 t)
+    (join-choice-slice-aggregate-copy-2 t)
+    (join-choice-copy-requires-2 t)
+    (join-choice-same-length t)
+    (join-choice-returns t)

@@ -1,0 +1,5 @@
+pub mod Joins
+pub mod Ends
+pub mod Settled
+pub mod Choosing
+pub mod Masks

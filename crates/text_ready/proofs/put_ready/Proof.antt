@@ -1,0 +1,57 @@
+-- `text_ready::put_ready` meets its contract: the family that holds only the empty mask, joined with the place, holds its ready sets.
+-- Assumes nothing.
+use mathlib.Core.Path.{ap, _∙_}
+use mathlib.Core.List.{List}
+use Prim.Native.Nat.{ℕ, min}
+use lib.ListN.{length, take}
+use Rattle.little_endian.specs.Front.{front}
+use Rattle.text_ready.proofs.Masks.{masks-are-ready}
+use borrow.Author.Needs.{needs}
+use Rattle.text_ready.proofs.put_ready.Statement.{statement}
+use Rattle.text_ready.proofs.put_ready.Tie as tie
+
+slice-aggregate-only-empty : tie.Need-slice-aggregate-only-empty
+slice-aggregate-only-empty c = search needs
+
+only-empty-requires : tie.Need-only-empty-requires
+only-empty-requires c κs = search needs
+
+slice-aggregate-join : tie.Need-slice-aggregate-join
+slice-aggregate-join c = search needs
+
+join-requires : tie.Need-join-requires
+join-requires c κs = search needs
+
+slice-aggregate-masks : tie.Need-slice-aggregate-masks
+slice-aggregate-masks c = search needs
+
+masks-requires : tie.Need-masks-requires
+masks-requires c κs = search needs
+
+same-length : tie.Need-same-length
+same-length c = search needs
+
+returns : tie.Need-returns
+returns c =
+    let s = c .before .before .before .before .before .before .before .before .before .before .before .before .before .before in
+    let a = s .args in
+    let written = c .before .before .masks .ensures in
+    λ senses x.
+    let e = masks-are-ready (a .cells .now) (a .bodies .now) (a .place) (s .pre .4) (s .pre .3) (c .before .before .before .before .before .before .before .before .before .only-empty .ensures .1)
+    (c .before .before .before .before .before .before .join .ensures) senses x in (
+      written .0 ∙ ap (λ (l : List ℕ). min 9 (length l)) e,
+      written .1 ∙ ap (λ (l : List ℕ). front (take 8 l) (a .out .now)) e,
+    )
+
+pub put-ready-spec : {M : Type 1} → statement M
+put-ready-spec =
+    tie.close
+    (tie.spec
+    slice-aggregate-only-empty
+    only-empty-requires
+    slice-aggregate-join
+    join-requires
+    slice-aggregate-masks
+    masks-requires
+    same-length
+    returns)

@@ -1,0 +1,42 @@
+-- What joining a family with the ready sets of a part gives, told the cells of the places.
+-- Assumes nothing.
+use mathlib.Core.Path.{_≡_}
+use mathlib.Core.List.{List}
+use Prim.Native.Nat.{ℕ, _+_, _<_}
+use lib.ListN.{length, getD}
+use lib.Dec.{T}
+use Rattle.model.specs.Contract.{has}
+use Rattle.families.specs.Families.{inFamily}
+use Rattle.text.specs.Places.{Sense, senseAt}
+use Rattle.text.specs.Cells.{Explained, unpacked, placeOf}
+use Rattle.text_ready.specs.Joined.{Family, Joined, Absorbs, United}
+
+-- a place with an internal choice
+pub record Choice (cells : List ℕ) (p : ℕ) : Type 0 where
+  pub after : 0 < p
+  pub inside : p < length cells
+  pub inner : unpacked (getD cells p 0) .kind ≡ 15
+
+module _ (cells bodies : List ℕ) where
+  -- the ready sets of what a link leads to
+  unfoldable pub readyBy : List Sense → ℕ → List ℕ
+  readyBy senses link = senseAt senses (placeOf cells bodies link) .ready
+
+  -- a family absorbs the ready sets of the bodies of recs: a bit for each
+  abbrev pub Settled : List Sense → Family → ℕ → Type 0
+  Settled senses F recs = (r : ℕ) → r < 64 → T (has recs r) → Absorbs F (readyBy senses (256 + r))
+
+  -- The family is joined with what a link leads to. What it absorbed it absorbs still, and perhaps more.
+  pub record JoinedBy (link recs : ℕ) (family family′ : List ℕ) (recs′ : ℕ) : Type 0 where
+    pub room : length family′ ≡ 256
+    pub joined : (senses : List Sense) → Explained cells bodies senses → Settled senses (inFamily family) recs
+        → Joined (inFamily family) (readyBy senses link) (inFamily family′)
+    pub settled : (senses : List Sense) → Explained cells bodies senses → Settled senses (inFamily family) recs
+        → Settled senses (inFamily family′) recs′
+
+  -- One part of an internal choice more: what joining gives for it is put into one family with the others.
+  pub record Added (link recs : ℕ) (start all all′ : List ℕ) (kept kept′ : ℕ) : Type 0 where
+    pub room : length all′ ≡ 256
+    pub added : (senses : List Sense) → Explained cells bodies senses → Settled senses (inFamily start) recs
+        → (P : Family) × Joined (inFamily start) (readyBy senses link) P × United (inFamily all) P (inFamily all′)
+        × ((r : ℕ) → r < 64 → T (has kept′ r) → T (has kept r) × Absorbs P (readyBy senses (256 + r)))
