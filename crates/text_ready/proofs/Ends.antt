@@ -114,4 +114,5 @@ module _ (cells bodies : List ℕ) where
 pub is-plus : (x : ℕ) {kind : ℕ} → kind ≡ unpacked x .kind → 14 ≤ kind → (kind ≡ 15 → ⊥) → unpacked x .kind ≡ 14
 unfolding unpacked
 is-plus x is choice other =
-    ⊎-elim (λ (e : 14 ≡ x % 16). sym e) (λ (h : 14 < x % 16). absurd (other (omega (arith, is, h)))) (eq-or-lt-of-le (omega (arith, is, choice)))
+    ⊎-elim (λ (e : 14 ≡ x % 16). sym e) (λ (h : 14 < x % 16). absurd (other (omega (arith, is, h))))
+    (eq-or-lt-of-le (omega (arith, is, choice)))

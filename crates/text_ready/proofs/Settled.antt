@@ -89,7 +89,8 @@ module _ (cells bodies : List ℕ) where
   prefix-joined p recs {family} {family′} some small inside {kind} is prefix long f = record {
     room = long;
     joined = λ senses x s.
-        let e = ready-place senses p small ∙ x .prefix-ready p some inside (subst (λ (k : ℕ). k < 14) is prefix) ∙ ap (λ (k : ℕ). 2 ^ k ∷ []) (sym is) in
+        let h = subst (λ (k : ℕ). k < 14) is prefix in
+        let e = ready-place senses p small ∙ x .prefix-ready p some inside h ∙ ap (λ (k : ℕ). 2 ^ k ∷ []) (sym is) in
         subst⁻¹ (λ (l : List ℕ). Joined (inFamily family) l (inFamily family′)) e (gained kind f);
     settled = λ senses x s. settled-on senses (inFamily family) (inFamily family′) _ recs s (gained kind f);
   }
@@ -154,6 +155,8 @@ module _ (cells bodies : List ℕ) where
       inFamily part,
       a .joined senses x s,
       u,
-      λ r h t. let both = and-both (has kept r) (has recs′ r) (subst T (has-and kept recs′ r) t) in (both .0, a .settled senses x s r h (both .1)),
+      λ r h t.
+          let both = and-both (has kept r) (has recs′ r) (subst T (has-and kept recs′ r) t) in
+          (both .0, a .settled senses x s r h (both .1)),
     );
   }

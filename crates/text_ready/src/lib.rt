@@ -10,7 +10,7 @@ ghost use Rattle.model.specs.Contract.{has};
 ghost use Rattle.little_endian.specs.Front.{front};
 ghost use Rattle.nodes.specs.Sets.{sorted};
 ghost use Rattle.text.specs.Places.{Sense, senseAt};
-ghost use Rattle.text.specs.Cells.{Cell, Ends, Explained, unpacked};
+ghost use Rattle.text.specs.Cells.{Ends, Explained, unpacked};
 ghost use Rattle.text_ready.specs.Ready.{Choice, JoinedBy, Added};
 
 // Above all places: a link from here on leads to the body of a rec.

@@ -160,12 +160,18 @@ add-part-same-length t c = search needs
 
 add-part-returns : (t : ℕ) → add-part-lts.Need-returns (add-part-claims t) (add-part-at t) add-part.Post
 add-part-returns t c =
-    let s = c .before .before .before .before .before .before .before .before .before .before .before .before .before .before .before in
+    let early = c .before .before .before .before .before .before .before .before .before .before in
+    let s = early .before .before .before .before .before in
     let a = s .args in
-    let copied = c .before .before .before .before .before .before .before .before .before .copy .ensures in
-    let united = c .before .before .unite .ensures in
-    part-added (a .cells .now) (a .bodies .now) (a .link) (a .recs) (a .kept) (c .before .before .before .before .before .before .join .result)
-    (from-start (a .cells .now) (a .bodies .now) copied (c .before .before .before .before .before .before .join .ensures)) (united .0) (united .1)
+    let cells = a .cells .now in
+    let bodies = a .bodies .now in
+    let copy = c .before .before .before .before .before .before .before .before .before .copy in
+    let join = c .before .before .before .before .before .before .join in
+    let unite = c .before .before .unite in
+    let copied = copy .ensures in
+    let united = unite .ensures in
+    part-added cells bodies (a .link) (a .recs) (a .kept) (join .result)
+    (from-start cells bodies copied (join .ensures)) (united .0) (united .1)
 
 join-cast-join-body : (t : ℕ) → join-lts.Need-cast-join-body (join-claims t) (join-at t) join.Post
 join-cast-join-body t c = search needs
@@ -174,11 +180,14 @@ join-join-body-requires : (t : ℕ) → join-lts.Need-join-body-requires (join-c
 join-join-body-requires t c κs =
     let s = c .before .before .before .before .before in
     let a = s .args in
-    let back : 256 + (a .link - 256) ≡ a .link = omega (arith, c .before .if1 .taken) in
-    let body = to-body (a .cells .now) (a .bodies .now) (a .bound) (a .link - 256) (s .pre .1 .3) (sym back) in
+    let cells = a .cells .now in
+    let bodies = a .bodies .now in
+    let if1 = c .before .if1 in
+    let back : 256 + (a .link - 256) ≡ a .link = omega (arith, if1 .taken) in
+    let body = to-body cells bodies (a .bound) (a .link - 256) (s .pre .1 .3) (sym back) in
     let at : a .bound * 2048 + (4 * weight (a .link) + 1) ≡ t = s .pre .0 in
     let below : a .link - 256 < a .bound = body .below in
-    (omega (arith, at, below), (s .pre .1 .0, s .pre .1 .1, s .pre .1 .2, rec-ends (a .cells .now) (a .bodies .now) body))
+    (omega (arith, at, below), (s .pre .1 .0, s .pre .1 .1, s .pre .1 .2, rec-ends cells bodies body))
 
 join-same-length : (t : ℕ) → join-lts.Need-same-length (join-claims t) (join-at t) join.Post
 join-same-length t c = search needs
@@ -187,14 +196,20 @@ join-returns : (t : ℕ) → join-lts.Need-returns (join-claims t) (join-at t) j
 join-returns t c =
     let s = c .before .before .before .before .before .before .before .before in
     let a = s .args in
-    let back : 256 + (a .link - 256) ≡ a .link = omega (arith, c .before .before .before .before .if1 .taken) in
-    at-link (a .cells .now) (a .bodies .now) back (c .before .before .join-body .ensures)
+    let cells = a .cells .now in
+    let bodies = a .bodies .now in
+    let if1 = c .before .before .before .before .if1 in
+    let join-body = c .before .before .join-body in
+    let back : 256 + (a .link - 256) ≡ a .link = omega (arith, if1 .taken) in
+    at-link cells bodies back (join-body .ensures)
 
 join-returns-2 : (t : ℕ) → join-lts.Need-returns-2 (join-claims t) (join-at t) join.Post
 join-returns-2 t c =
     let s = c .before .before .before .before .before in
     let a = s .args in
-    at-link (a .cells .now) (a .bodies .now) (sym (c .if2 .taken)) (end-joined (a .cells .now) (a .bodies .now) (a .recs) (s .pre .1 .2))
+    let cells = a .cells .now in
+    let bodies = a .bodies .now in
+    at-link cells bodies (sym (c .if2 .taken)) (end-joined cells bodies (a .recs) (s .pre .1 .2))
 
 join-mul-cell : (t : ℕ) → join-lts.Need-mul-cell (join-claims t) (join-at t) join.Post
 join-mul-cell t c = search needs
@@ -203,7 +218,11 @@ join-shared-slice-read-cell : (t : ℕ) → join-lts.Need-shared-slice-read-cell
 join-shared-slice-read-cell t c =
     let s = c .before .before .before .before .before .before in
     let a = s .args in
-    inside-cells (a .cells .now) (a .bodies .now) (s .pre .1 .3) (pos-of-ne-zero (c .before .if2 .left)) (c .before .before .if1 .left)
+    let cells = a .cells .now in
+    let bodies = a .bodies .now in
+    let if1 = c .before .before .if1 in
+    let if2 = c .before .if2 in
+    inside-cells cells bodies (s .pre .1 .3) (pos-of-ne-zero (if2 .left)) (if1 .left)
 
 join-kind-of-requires : (t : ℕ) → join-lts.Need-kind-of-requires (join-claims t) (join-at t) join.Post
 join-kind-of-requires t c κs = search needs
@@ -216,24 +235,38 @@ join-same-length-2 t c = search needs
 
 join-returns-3 : (t : ℕ) → join-lts.Need-returns-3 (join-claims t) (join-at t) join.Post
 join-returns-3 t c =
-    let s = c .before .before .before .before .before .before .before .before .before .before .before .before in
+    let early = c .before .before .before .before .before .before .before .before .before .before in
+    let s = early .before .before in
     let a = s .args in
-    let some = pos-of-ne-zero (c .before .before .before .before .before .before .before .if2 .left) in
-    let small = c .before .before .before .before .before .before .before .before .if1 .left in
-    let is = c .before .before .before .before .before .kind-of .ensures in
-    let forced = c .before .before .gain .ensures in
-    prefix-joined (a .cells .now) (a .bodies .now) (a .link) (a .recs) some small (inside-cells (a .cells .now) (a .bodies .now) (s .pre .1 .3) some small)
-    is (c .before .before .before .before .if3 .taken) (forced .0) (forced .1)
+    let cells = a .cells .now in
+    let bodies = a .bodies .now in
+    let if1 = c .before .before .before .before .before .before .before .before .if1 in
+    let if2 = c .before .before .before .before .before .before .before .if2 in
+    let kind-of = c .before .before .before .before .before .kind-of in
+    let if3 = c .before .before .before .before .if3 in
+    let gain = c .before .before .gain in
+    let some = pos-of-ne-zero (if2 .left) in
+    let small = if1 .left in
+    let is = kind-of .ensures in
+    let forced = gain .ensures in
+    prefix-joined cells bodies (a .link) (a .recs) some small (inside-cells cells bodies (s .pre .1 .3) some small)
+    is (if3 .taken) (forced .0) (forced .1)
 
 join-join-choice-requires : (t : ℕ) → join-lts.Need-join-choice-requires (join-claims t) (join-at t) join.Post
 join-join-choice-requires t c κs =
     let s = c .before .before .before .before .before .before .before .before .before .before in
     let a = s .args in
-    let some = pos-of-ne-zero (c .before .before .before .before .before .if2 .left) in
-    let small = c .before .before .before .before .before .before .if1 .left in
+    let cells = a .cells .now in
+    let bodies = a .bodies .now in
+    let if1 = c .before .before .before .before .before .before .if1 in
+    let if2 = c .before .before .before .before .before .if2 in
+    let kind-of = c .before .before .before .kind-of in
+    let if4 = c .before .if4 in
+    let some = pos-of-ne-zero (if2 .left) in
+    let small = if1 .left in
     let at : a .bound * 2048 + (4 * weight (a .link) + 1) ≡ t = s .pre .0 in
-    let choice : Choice (a .cells .now) (a .link) =
-    record { after = some; inside = inside-cells (a .cells .now) (a .bodies .now) (s .pre .1 .3) some small; inner = sym (c .before .before .before .kind-of .ensures) ∙ c .before .if4 .taken } in
+    let choice : Choice cells (a .link) =
+    record { after = some; inside = inside-cells cells bodies (s .pre .1 .3) some small; inner = sym (kind-of .ensures) ∙ if4 .taken } in
     (omega (arith, at), (s .pre .1 .0, s .pre .1 .1, s .pre .1 .2, s .pre .1 .3, choice))
 
 join-same-length-3 : (t : ℕ) → join-lts.Need-same-length-3 (join-claims t) (join-at t) join.Post
@@ -247,60 +280,105 @@ join-left-of-requires t c κs = search needs
 
 join-join-requires : (t : ℕ) → join-lts.Need-join-requires (join-claims t) (join-at t) join.Post
 join-join-requires t c κs =
-    let s = c .before .before .before .before .before .before .before .before .before .before .before in
+    let early = c .before .before .before .before .before .before .before .before .before .before in
+    let s = early .before in
     let a = s .args in
-    let small = c .before .before .before .before .before .before .before .if1 .left in
-    let parts = parts-at (a .cells .now) (a .bodies .now) (s .pre .1 .3) (c .before .before .before .before .before .before .if2 .left) small (c .before .before .before .before .kind-of .ensures) (c .before .before .before .if3 .left) in
-    let is = c .before .left-of .ensures in
+    let cells = a .cells .now in
+    let bodies = a .bodies .now in
+    let if1 = c .before .before .before .before .before .before .before .if1 in
+    let if2 = c .before .before .before .before .before .before .if2 in
+    let kind-of = c .before .before .before .before .kind-of in
+    let if3 = c .before .before .before .if3 in
+    let left-of = c .before .left-of in
+    let small = if1 .left in
+    let parts = parts-at cells bodies (s .pre .1 .3) (if2 .left) small (kind-of .ensures) (if3 .left) in
+    let is = left-of .ensures in
     let at : a .bound * 2048 + (4 * weight (a .link) + 1) ≡ t = s .pre .0 in
     let less = lighter (a .link) _ small (parts .left-falls) in
-    (omega (arith, at, less, ap weight is), (s .pre .1 .0, s .pre .1 .1, s .pre .1 .2, subst⁻¹ (Ends (a .cells .now) (a .bodies .now) (a .bound)) is (parts .left-ends)))
+    let ends = subst⁻¹ (Ends cells bodies (a .bound)) is (parts .left-ends) in
+    (omega (arith, at, less, ap weight is), (s .pre .1 .0, s .pre .1 .1, s .pre .1 .2, ends))
 
 join-right-of-requires : (t : ℕ) → join-lts.Need-right-of-requires (join-claims t) (join-at t) join.Post
 join-right-of-requires t c κs =
-    let s = c .before .before .before .before .before .before .before .before .before .before .before .before .before .before in
+    let early = c .before .before .before .before .before .before .before .before .before .before in
+    let s = early .before .before .before .before in
     let a = s .args in
-    let small = c .before .before .before .before .before .before .before .before .before .before .if1 .left in
-    let parts = parts-at (a .cells .now) (a .bodies .now) (s .pre .1 .3) (c .before .before .before .before .before .before .before .before .before .if2 .left) small (c .before .before .before .before .before .before .before .kind-of .ensures) (c .before .before .before .before .before .before .if3 .left) in
-    omega (arith, link-small (a .cells .now) (a .bodies .now) (parts .right-ends) (s .pre .1 .0))
+    let cells = a .cells .now in
+    let bodies = a .bodies .now in
+    let if1 = early .if1 in
+    let if2 = c .before .before .before .before .before .before .before .before .before .if2 in
+    let kind-of = c .before .before .before .before .before .before .before .kind-of in
+    let if3 = c .before .before .before .before .before .before .if3 in
+    let small = if1 .left in
+    let parts = parts-at cells bodies (s .pre .1 .3) (if2 .left) small (kind-of .ensures) (if3 .left) in
+    omega (arith, link-small cells bodies (parts .right-ends) (s .pre .1 .0))
 
 join-join-requires-2 : (t : ℕ) → join-lts.Need-join-requires-2 (join-claims t) (join-at t) join.Post
 join-join-requires-2 t c κs =
-    let s = c .before .before .before .before .before .before .before .before .before .before .before .before .before .before .before .before in
+    let early = c .before .before .before .before .before .before .before .before .before .before in
+    let s = early .before .before .before .before .before .before in
     let a = s .args in
-    let small = c .before .before .before .before .before .before .before .before .before .before .before .before .if1 .left in
-    let parts = parts-at (a .cells .now) (a .bodies .now) (s .pre .1 .3) (c .before .before .before .before .before .before .before .before .before .before .before .if2 .left) small (c .before .before .before .before .before .before .before .before .before .kind-of .ensures) (c .before .before .before .before .before .before .before .before .if3 .left) in
-    let is = c .before .right-of .ensures in
+    let cells = a .cells .now in
+    let bodies = a .bodies .now in
+    let if1 = early .before .before .if1 in
+    let if2 = early .before .if2 in
+    let kind-of = c .before .before .before .before .before .before .before .before .before .kind-of in
+    let if3 = c .before .before .before .before .before .before .before .before .if3 in
+    let join = c .before .before .before .before .join in
+    let right-of = c .before .right-of in
+    let small = if1 .left in
+    let parts = parts-at cells bodies (s .pre .1 .3) (if2 .left) small (kind-of .ensures) (if3 .left) in
+    let is = right-of .ensures in
     let at : a .bound * 2048 + (4 * weight (a .link) + 1) ≡ t = s .pre .0 in
     let less = lighter (a .link) _ small (parts .right-falls) in
-    (omega (arith, at, less, ap weight is), (s .pre .1 .0, s .pre .1 .1, c .before .before .before .before .join .ensures .room, subst⁻¹ (Ends (a .cells .now) (a .bodies .now) (a .bound)) is (parts .right-ends)))
+    let ends = subst⁻¹ (Ends cells bodies (a .bound)) is (parts .right-ends) in
+    (omega (arith, at, less, ap weight is), (s .pre .1 .0, s .pre .1 .1, join .ensures .room, ends))
 
 join-same-length-4 : (t : ℕ) → join-lts.Need-same-length-4 (join-claims t) (join-at t) join.Post
 join-same-length-4 t c = search needs
 
 join-returns-5 : (t : ℕ) → join-lts.Need-returns-5 (join-claims t) (join-at t) join.Post
 join-returns-5 t c =
-    let s = c .before .before .before .before .before .before .before .before .before .before .before .before .before .before .before .before .before .before .before in
+    let early = c .before .before .before .before .before .before .before .before .before .before in
+    let s = early .before .before .before .before .before .before .before .before .before in
     let a = s .args in
-    let some = pos-of-ne-zero (c .before .before .before .before .before .before .before .before .before .before .before .before .before .before .if2 .left) in
-    let small = c .before .before .before .before .before .before .before .before .before .before .before .before .before .before .before .if1 .left in
-    let plus = is-plus (getD (a .cells .now) (a .link) 0) (c .before .before .before .before .before .before .before .before .before .before .before .before .kind-of .ensures) (c .before .before .before .before .before .before .before .before .before .before .before .if3 .left) (c .before .before .before .before .before .before .before .before .before .before .if4 .left) in
-    plus-joined (a .cells .now) (a .bodies .now) (a .link) (a .recs) (c .before .before .before .before .before .before .before .join .result) (c .before .before .join2 .result) some small (inside-cells (a .cells .now) (a .bodies .now) (s .pre .1 .3) some small) plus
-    (at-link (a .cells .now) (a .bodies .now) (c .before .before .before .before .before .before .before .before .before .left-of .ensures) (c .before .before .before .before .before .before .before .join .ensures)) (at-link (a .cells .now) (a .bodies .now) (c .before .before .before .before .right-of .ensures) (c .before .before .join2 .ensures))
+    let cells = a .cells .now in
+    let bodies = a .bodies .now in
+    let if1 = early .before .before .before .before .before .if1 in
+    let if2 = early .before .before .before .before .if2 in
+    let kind-of = early .before .before .kind-of in
+    let if3 = early .before .if3 in
+    let if4 = early .if4 in
+    let left-of = c .before .before .before .before .before .before .before .before .before .left-of in
+    let join = c .before .before .before .before .before .before .before .join in
+    let right-of = c .before .before .before .before .right-of in
+    let join2 = c .before .before .join2 in
+    let some = pos-of-ne-zero (if2 .left) in
+    let small = if1 .left in
+    let plus = is-plus (getD cells (a .link) 0) (kind-of .ensures) (if3 .left) (if4 .left) in
+    let inside = inside-cells cells bodies (s .pre .1 .3) some small in
+    plus-joined cells bodies (a .link) (a .recs) (join .result) (join2 .result) some small inside plus
+    (at-link cells bodies (left-of .ensures) (join .ensures)) (at-link cells bodies (right-of .ensures) (join2 .ensures))
 
 join-body-has-rec-requires : (t : ℕ) → join-body-lts.Need-has-rec-requires (join-body-claims t) (join-body-at t) join-body.Post
 join-body-has-rec-requires t c κs =
     let s = c .before .before .before in
     let a = s .args in
-    let body = to-body (a .cells .now) (a .bodies .now) (a .r + 1) (a .r) (s .pre .1 .3) refl in
+    let cells = a .cells .now in
+    let bodies = a .bodies .now in
+    let body = to-body cells bodies (a .r + 1) (a .r) (s .pre .1 .3) refl in
     omega (arith, body .inside, s .pre .1 .0)
 
 join-body-returns : (t : ℕ) → join-body-lts.Need-returns (join-body-claims t) (join-body-at t) join-body.Post
 join-body-returns t c =
     let s = c .before .before .before .before .before in
     let a = s .args in
-    let body = to-body (a .cells .now) (a .bodies .now) (a .r + 1) (a .r) (s .pre .1 .3) refl in
-    body-known (a .cells .now) (a .bodies .now) (a .r) (a .recs) (omega (arith, body .inside, s .pre .1 .0)) (subst T (sym (c .if1 .taken) ∙ c .before .has-rec .ensures) tt) (s .pre .1 .2)
+    let cells = a .cells .now in
+    let bodies = a .bodies .now in
+    let has-rec = c .before .has-rec in
+    let body = to-body cells bodies (a .r + 1) (a .r) (s .pre .1 .3) refl in
+    let known = subst T (sym (c .if1 .taken) ∙ has-rec .ensures) tt in
+    body-known cells bodies (a .r) (a .recs) (omega (arith, body .inside, s .pre .1 .0)) known (s .pre .1 .2)
 
 join-body-slice-aggregate-copy : (t : ℕ) → join-body-lts.Need-slice-aggregate-copy (join-body-claims t) (join-body-at t) join-body.Post
 join-body-slice-aggregate-copy t c = search needs
@@ -312,23 +390,30 @@ join-body-mul-join : (t : ℕ) → join-body-lts.Need-mul-join (join-body-claims
 join-body-mul-join t c =
     let s = c .before .before .before .before .before .before .before .before .before in
     let a = s .args in
-    let body = to-body (a .cells .now) (a .bodies .now) (a .r + 1) (a .r) (s .pre .1 .3) refl in
+    let cells = a .cells .now in
+    let bodies = a .bodies .now in
+    let body = to-body cells bodies (a .r + 1) (a .r) (s .pre .1 .3) refl in
     omega (arith, body .inside, s .pre .1 .0)
 
 join-body-shared-slice-read-join : (t : ℕ) → join-body-lts.Need-shared-slice-read-join (join-body-claims t) (join-body-at t) join-body.Post
 join-body-shared-slice-read-join t c =
     let s = c .before .before .before .before .before .before .before .before .before .before in
     let a = s .args in
-    let body = to-body (a .cells .now) (a .bodies .now) (a .r + 1) (a .r) (s .pre .1 .3) refl in
+    let cells = a .cells .now in
+    let bodies = a .bodies .now in
+    let body = to-body cells bodies (a .r + 1) (a .r) (s .pre .1 .3) refl in
     body .inside
 
 join-body-join-requires : (t : ℕ) → join-body-lts.Need-join-requires (join-body-claims t) (join-body-at t) join-body.Post
 join-body-join-requires t c κs =
-    let s = c .before .before .before .before .before .before .before .before .before .before .before in
+    let early = c .before .before .before .before .before .before .before .before .before .before in
+    let s = early .before in
     let a = s .args in
-    let body = to-body (a .cells .now) (a .bodies .now) (a .r + 1) (a .r) (s .pre .1 .3) refl in
+    let cells = a .cells .now in
+    let bodies = a .bodies .now in
+    let body = to-body cells bodies (a .r + 1) (a .r) (s .pre .1 .3) refl in
     let at : a .r * 2048 + 2000 ≡ t = s .pre .0 in
-    (omega (arith, at, weight-most (getD (a .bodies .now) (a .r) 0)), (s .pre .1 .0, s .pre .1 .1, s .pre .1 .2, body .ends))
+    (omega (arith, at, weight-most (getD bodies (a .r) 0)), (s .pre .1 .0, s .pre .1 .1, s .pre .1 .2, body .ends))
 
 join-body-slice-aggregate-same : (t : ℕ) → join-body-lts.Need-slice-aggregate-same (join-body-claims t) (join-body-at t) join-body.Post
 join-body-slice-aggregate-same t c = search needs
@@ -338,9 +423,12 @@ join-body-same-requires t c κs = search needs
 
 join-body-with-rec-requires : (t : ℕ) → join-body-lts.Need-with-rec-requires (join-body-claims t) (join-body-at t) join-body.Post
 join-body-with-rec-requires t c κs =
-    let s = c .before .before .before .before .before .before .before .before .before .before .before .before .before .before .before .before .before .before in
+    let early = c .before .before .before .before .before .before .before .before .before .before in
+    let s = early .before .before .before .before .before .before .before .before in
     let a = s .args in
-    let body = to-body (a .cells .now) (a .bodies .now) (a .r + 1) (a .r) (s .pre .1 .3) refl in
+    let cells = a .cells .now in
+    let bodies = a .bodies .now in
+    let body = to-body cells bodies (a .r + 1) (a .r) (s .pre .1 .3) refl in
     omega (arith, body .inside, s .pre .1 .0)
 
 join-body-same-length : (t : ℕ) → join-body-lts.Need-same-length (join-body-claims t) (join-body-at t) join-body.Post
@@ -348,144 +436,226 @@ join-body-same-length t c = search needs
 
 join-body-returns-2 : (t : ℕ) → join-body-lts.Need-returns-2 (join-body-claims t) (join-body-at t) join-body.Post
 join-body-returns-2 t c =
-    let s = c .before .before .before .before .before .before .before .before .before .before .before .before .before .before .before .before .before .before .before in
+    let early = c .before .before .before .before .before .before .before .before .before .before in
+    let s = early .before .before .before .before .before .before .before .before .before in
     let a = s .args in
-    let body = to-body (a .cells .now) (a .bodies .now) (a .r + 1) (a .r) (s .pre .1 .3) refl in
-    let same = sym (c .before .before .before .before .before .before .before .before .before .before .before .copy .ensures) ∙ c .before .before .same .ensures .0 (subst⁻¹ T (c .before .if2 .taken) tt) in
-    body-noted (a .cells .now) (a .bodies .now) (a .r) (a .recs) (c .before .before .before .before .before .before .before .join .result) (c .with-rec .ensures) same
-    (body-joined (a .cells .now) (a .bodies .now) (a .r) (a .recs) (c .before .before .before .before .before .before .before .join .result) (body .place) (c .before .before .before .before .before .before .before .join .ensures))
+    let cells = a .cells .now in
+    let bodies = a .bodies .now in
+    let copy = early .before .copy in
+    let join = c .before .before .before .before .before .before .before .join in
+    let same = c .before .before .same in
+    let if2 = c .before .if2 in
+    let body = to-body cells bodies (a .r + 1) (a .r) (s .pre .1 .3) refl in
+    let same = sym (copy .ensures) ∙ same .ensures .0 (subst⁻¹ T (if2 .taken) tt) in
+    body-noted cells bodies (a .r) (a .recs) (join .result) (c .with-rec .ensures) same
+    (body-joined cells bodies (a .r) (a .recs) (join .result) (body .place) (join .ensures))
 
 join-body-same-length-2 : (t : ℕ) → join-body-lts.Need-same-length-2 (join-body-claims t) (join-body-at t) join-body.Post
 join-body-same-length-2 t c = search needs
 
 join-body-returns-3 : (t : ℕ) → join-body-lts.Need-returns-3 (join-body-claims t) (join-body-at t) join-body.Post
 join-body-returns-3 t c =
-    let s = c .before .before .before .before .before .before .before .before .before .before .before .before .before .before .before .before .before .before in
+    let early = c .before .before .before .before .before .before .before .before .before .before in
+    let s = early .before .before .before .before .before .before .before .before in
     let a = s .args in
-    let body = to-body (a .cells .now) (a .bodies .now) (a .r + 1) (a .r) (s .pre .1 .3) refl in
-    body-joined (a .cells .now) (a .bodies .now) (a .r) (a .recs) (c .before .before .before .before .before .before .join .result) (body .place) (c .before .before .before .before .before .before .join .ensures)
+    let cells = a .cells .now in
+    let bodies = a .bodies .now in
+    let join = c .before .before .before .before .before .before .join in
+    let body = to-body cells bodies (a .r + 1) (a .r) (s .pre .1 .3) refl in
+    body-joined cells bodies (a .r) (a .recs) (join .result) (body .place) (join .ensures)
 
-abbrev join-choice-Inv-loop : join-choice-lts.InvT-loop
-join-choice-Inv-loop cells bodies place bound family recs start all₀ kept₀ at₀ all kept at = Choosing cells bodies place bound recs start all kept at
+abbrev Inv-loop : join-choice-lts.InvT-loop
+Inv-loop cells bodies place bound family recs start all₀ kept₀ at₀ all kept at = Choosing cells bodies place bound recs start all kept at
 
-abbrev join-choice-μ-loop : join-choice-lts.MeasureT-loop
-join-choice-μ-loop cells bodies place bound family recs start all₀ kept₀ at₀ all kept at = weight at
+abbrev μ-loop : join-choice-lts.MeasureT-loop
+μ-loop cells bodies place bound family recs start all₀ kept₀ at₀ all kept at = weight at
 
-join-choice-slice-aggregate-copy : (t : ℕ) → join-choice-lts.Need-slice-aggregate-copy (join-choice-claims t) (join-choice-at t) join-choice.Post join-choice-Inv-loop join-choice-μ-loop
+join-choice-slice-aggregate-copy : (t : ℕ)
+    → join-choice-lts.Need-slice-aggregate-copy (join-choice-claims t) (join-choice-at t) join-choice.Post Inv-loop μ-loop
 join-choice-slice-aggregate-copy t c = search needs
 
-join-choice-copy-requires : (t : ℕ) → join-choice-lts.Need-copy-requires (join-choice-claims t) (join-choice-at t) join-choice.Post join-choice-Inv-loop join-choice-μ-loop
+join-choice-copy-requires : (t : ℕ)
+    → join-choice-lts.Need-copy-requires (join-choice-claims t) (join-choice-at t) join-choice.Post Inv-loop μ-loop
 join-choice-copy-requires t c κs = search needs
 
-join-choice-loop-holds : (t : ℕ) → join-choice-lts.Need-loop-holds (join-choice-claims t) (join-choice-at t) join-choice.Post join-choice-Inv-loop join-choice-μ-loop
+join-choice-loop-holds : (t : ℕ)
+    → join-choice-lts.Need-loop-holds (join-choice-claims t) (join-choice-at t) join-choice.Post Inv-loop μ-loop
 join-choice-loop-holds t c =
     let s = c .before .before .before .before .before .before .before in
     let a = s .args in
-    choosing-none (a .cells .now) (a .bodies .now) (a .place) (a .bound) (a .recs) _ (s .pre .1 .3)
+    let cells = a .cells .now in
+    let bodies = a .bodies .now in
+    choosing-none cells bodies (a .place) (a .bound) (a .recs) _ (s .pre .1 .3)
 
-join-choice-is-choice-requires : (t : ℕ) → join-choice-lts.Need-is-choice-requires (join-choice-claims t) (join-choice-at t) join-choice.Post join-choice-Inv-loop join-choice-μ-loop
+join-choice-is-choice-requires : (t : ℕ)
+    → join-choice-lts.Need-is-choice-requires (join-choice-claims t) (join-choice-at t) join-choice.Post Inv-loop μ-loop
 join-choice-is-choice-requires t c κs = search needs
 
-join-choice-cast-cell : (t : ℕ) → join-choice-lts.Need-cast-cell (join-choice-claims t) (join-choice-at t) join-choice.Post join-choice-Inv-loop join-choice-μ-loop
+join-choice-cast-cell : (t : ℕ) → join-choice-lts.Need-cast-cell (join-choice-claims t) (join-choice-at t) join-choice.Post Inv-loop μ-loop
 join-choice-cast-cell t c =
     let s = c .before .before .before .before .before .before .before .before .before .before in
     let a = s .args in
-    omega (arith, link-small (a .cells .now) (a .bodies .now) (c .before .before .loop .inv .ends) (s .pre .1 .0))
+    let cells = a .cells .now in
+    let bodies = a .bodies .now in
+    let loop = c .before .before .loop in
+    omega (arith, link-small cells bodies (loop .inv .ends) (s .pre .1 .0))
 
-join-choice-mul-cell : (t : ℕ) → join-choice-lts.Need-mul-cell (join-choice-claims t) (join-choice-at t) join-choice.Post join-choice-Inv-loop join-choice-μ-loop
+join-choice-mul-cell : (t : ℕ) → join-choice-lts.Need-mul-cell (join-choice-claims t) (join-choice-at t) join-choice.Post Inv-loop μ-loop
 join-choice-mul-cell t c =
     let s = c .before .before .before .before .before .before .before .before .before .before in
     let a = s .args in
-    omega (arith, link-small (a .cells .now) (a .bodies .now) (c .before .before .loop .inv .ends) (s .pre .1 .0))
+    let cells = a .cells .now in
+    let bodies = a .bodies .now in
+    let loop = c .before .before .loop in
+    omega (arith, link-small cells bodies (loop .inv .ends) (s .pre .1 .0))
 
-join-choice-shared-slice-read-cell : (t : ℕ) → join-choice-lts.Need-shared-slice-read-cell (join-choice-claims t) (join-choice-at t) join-choice.Post join-choice-Inv-loop join-choice-μ-loop
+join-choice-shared-slice-read-cell : (t : ℕ)
+    → join-choice-lts.Need-shared-slice-read-cell (join-choice-claims t) (join-choice-at t) join-choice.Post Inv-loop μ-loop
 join-choice-shared-slice-read-cell t c =
-    let s = c .before .before .before .before .before .before .before .before .before .before .before in
+    let early = c .before .before .before .before .before .before .before .before .before .before in
+    let s = early .before in
     let a = s .args in
-    let choice = c .before .before .is-choice .ensures .0 (subst⁻¹ T (c .before .if1 .taken) tt) in
+    let is-choice = c .before .before .is-choice in
+    let if1 = c .before .if1 in
+    let choice = is-choice .ensures .0 (subst⁻¹ T (if1 .taken) tt) in
     choice .inside
 
-join-choice-right-of-requires : (t : ℕ) → join-choice-lts.Need-right-of-requires (join-choice-claims t) (join-choice-at t) join-choice.Post join-choice-Inv-loop join-choice-μ-loop
+join-choice-right-of-requires : (t : ℕ)
+    → join-choice-lts.Need-right-of-requires (join-choice-claims t) (join-choice-at t) join-choice.Post Inv-loop μ-loop
 join-choice-right-of-requires t c κs =
-    let s = c .before .before .before .before .before .before .before .before .before .before .before in
+    let early = c .before .before .before .before .before .before .before .before .before .before in
+    let s = early .before in
     let a = s .args in
-    let choice = c .before .before .is-choice .ensures .0 (subst⁻¹ T (c .before .if1 .taken) tt) in
-    let small : c .before .before .before .loop .at < 256 = omega (arith, choice .inside, s .pre .1 .1) in
-    let parts = parts-of (a .cells .now) (a .bodies .now) (c .before .before .before .loop .inv .ends) choice small in
-    omega (arith, link-small (a .cells .now) (a .bodies .now) (parts .right-ends) (s .pre .1 .0))
+    let cells = a .cells .now in
+    let bodies = a .bodies .now in
+    let loop = c .before .before .before .loop in
+    let is-choice = c .before .before .is-choice in
+    let if1 = c .before .if1 in
+    let choice = is-choice .ensures .0 (subst⁻¹ T (if1 .taken) tt) in
+    let small : loop .at < 256 = omega (arith, choice .inside, s .pre .1 .1) in
+    let parts = parts-of cells bodies (loop .inv .ends) choice small in
+    omega (arith, link-small cells bodies (parts .right-ends) (s .pre .1 .0))
 
-join-choice-slice-aggregate-add-part : (t : ℕ) → join-choice-lts.Need-slice-aggregate-add-part (join-choice-claims t) (join-choice-at t) join-choice.Post join-choice-Inv-loop join-choice-μ-loop
+join-choice-slice-aggregate-add-part : (t : ℕ)
+    → join-choice-lts.Need-slice-aggregate-add-part (join-choice-claims t) (join-choice-at t) join-choice.Post Inv-loop μ-loop
 join-choice-slice-aggregate-add-part t c = search needs
 
-join-choice-slice-aggregate-add-part-2 : (t : ℕ) → join-choice-lts.Need-slice-aggregate-add-part-2 (join-choice-claims t) (join-choice-at t) join-choice.Post join-choice-Inv-loop join-choice-μ-loop
+join-choice-slice-aggregate-add-part-2 : (t : ℕ)
+    → join-choice-lts.Need-slice-aggregate-add-part-2 (join-choice-claims t) (join-choice-at t) join-choice.Post Inv-loop μ-loop
 join-choice-slice-aggregate-add-part-2 t c = search needs
 
-join-choice-add-part-requires : (t : ℕ) → join-choice-lts.Need-add-part-requires (join-choice-claims t) (join-choice-at t) join-choice.Post join-choice-Inv-loop join-choice-μ-loop
+join-choice-add-part-requires : (t : ℕ)
+    → join-choice-lts.Need-add-part-requires (join-choice-claims t) (join-choice-at t) join-choice.Post Inv-loop μ-loop
 join-choice-add-part-requires t c κs =
-    let s = c .before .before .before .before .before .before .before .before .before .before .before .before .before .before in
+    let early = c .before .before .before .before .before .before .before .before .before .before in
+    let s = early .before .before .before .before in
     let a = s .args in
-    let choice = c .before .before .before .before .before .is-choice .ensures .0 (subst⁻¹ T (c .before .before .before .before .if1 .taken) tt) in
-    let small : c .before .before .before .before .before .before .loop .at < 256 = omega (arith, choice .inside, s .pre .1 .1) in
-    let parts = parts-of (a .cells .now) (a .bodies .now) (c .before .before .before .before .before .before .loop .inv .ends) choice small in
-    let is = c .before .before .right-of .ensures in
+    let cells = a .cells .now in
+    let bodies = a .bodies .now in
+    let copy = c .before .before .before .before .before .before .before .before .copy in
+    let loop = c .before .before .before .before .before .before .loop in
+    let is-choice = c .before .before .before .before .before .is-choice in
+    let if1 = c .before .before .before .before .if1 in
+    let right-of = c .before .before .right-of in
+    let choice = is-choice .ensures .0 (subst⁻¹ T (if1 .taken) tt) in
+    let small : loop .at < 256 = omega (arith, choice .inside, s .pre .1 .1) in
+    let parts = parts-of cells bodies (loop .inv .ends) choice small in
+    let is = right-of .ensures in
     let at : a .bound * 2048 + 4 * weight (a .place) ≡ t = s .pre .0 in
-    let less = lighter (c .before .before .before .before .before .before .loop .at) _ small (parts .right-falls) in (
-      omega (arith, at, less, ap weight is, c .before .before .before .before .before .before .loop .inv .falls),
-      (s .pre .1 .0, s .pre .1 .1, ap length (c .before .before .before .before .before .before .before .before .copy .ensures) ∙ s .pre .1 .2, c .before .before .before .before .before .before .loop .inv .room, subst⁻¹ (Ends (a .cells .now) (a .bodies .now) (a .bound)) is (parts .right-ends)),
+    let less = lighter (loop .at) _ small (parts .right-falls) in
+    let ends = subst⁻¹ (Ends cells bodies (a .bound)) is (parts .right-ends) in (
+      omega (arith, at, less, ap weight is, loop .inv .falls),
+      (s .pre .1 .0, s .pre .1 .1, ap length (copy .ensures) ∙ s .pre .1 .2, loop .inv .room, ends),
     )
 
-join-choice-left-of-requires : (t : ℕ) → join-choice-lts.Need-left-of-requires (join-choice-claims t) (join-choice-at t) join-choice.Post join-choice-Inv-loop join-choice-μ-loop
+join-choice-left-of-requires : (t : ℕ)
+    → join-choice-lts.Need-left-of-requires (join-choice-claims t) (join-choice-at t) join-choice.Post Inv-loop μ-loop
 join-choice-left-of-requires t c κs = search needs
 
-join-choice-loop-less : (t : ℕ) → join-choice-lts.Need-loop-less (join-choice-claims t) (join-choice-at t) join-choice.Post join-choice-Inv-loop join-choice-μ-loop
+join-choice-loop-less : (t : ℕ) → join-choice-lts.Need-loop-less (join-choice-claims t) (join-choice-at t) join-choice.Post Inv-loop μ-loop
 join-choice-loop-less t c =
-    let s = c .before .before .before .before .before .before .before .before .before .before .before .before .before .before .before .before .before in
+    let early = c .before .before .before .before .before .before .before .before .before .before in
+    let s = early .before .before .before .before .before .before .before in
     let a = s .args in
-    let choice = c .before .before .before .before .before .before .before .before .is-choice .ensures .0 (subst⁻¹ T (c .before .before .before .before .before .before .before .if1 .taken) tt) in
-    let small : c .before .before .before .before .before .before .before .before .before .loop .at < 256 = omega (arith, choice .inside, s .pre .1 .1) in
-    let parts = parts-of (a .cells .now) (a .bodies .now) (c .before .before .before .before .before .before .before .before .before .loop .inv .ends) choice small in
-    let less = lighter (c .before .before .before .before .before .before .before .before .before .loop .at) _ small (parts .left-falls) in
-    subst⁻¹ (λ (x : ℕ). weight x < weight (c .before .before .before .before .before .before .before .before .before .loop .at)) (c .left-of .ensures) less
+    let cells = a .cells .now in
+    let bodies = a .bodies .now in
+    let loop = c .before .before .before .before .before .before .before .before .before .loop in
+    let is-choice = c .before .before .before .before .before .before .before .before .is-choice in
+    let if1 = c .before .before .before .before .before .before .before .if1 in
+    let choice = is-choice .ensures .0 (subst⁻¹ T (if1 .taken) tt) in
+    let small : loop .at < 256 = omega (arith, choice .inside, s .pre .1 .1) in
+    let parts = parts-of cells bodies (loop .inv .ends) choice small in
+    let less = lighter (loop .at) _ small (parts .left-falls) in
+    subst⁻¹ (λ (x : ℕ). weight x < weight (loop .at)) (c .left-of .ensures) less
 
-join-choice-loop-again : (t : ℕ) → join-choice-lts.Need-loop-again (join-choice-claims t) (join-choice-at t) join-choice.Post join-choice-Inv-loop join-choice-μ-loop
+join-choice-loop-again : (t : ℕ)
+    → join-choice-lts.Need-loop-again (join-choice-claims t) (join-choice-at t) join-choice.Post Inv-loop μ-loop
 join-choice-loop-again t c =
-    let s = c .before .before .before .before .before .before .before .before .before .before .before .before .before .before .before .before .before in
+    let early = c .before .before .before .before .before .before .before .before .before .before in
+    let s = early .before .before .before .before .before .before .before in
     let a = s .args in
-    let choice = c .before .before .before .before .before .before .before .before .is-choice .ensures .0 (subst⁻¹ T (c .before .before .before .before .before .before .before .if1 .taken) tt) in
-    let small : c .before .before .before .before .before .before .before .before .before .loop .at < 256 = omega (arith, choice .inside, s .pre .1 .1) in
-    choosing-more (a .cells .now) (a .bodies .now) (c .before .before .before .before .before .before .before .before .before .loop .inv) choice small (c .left-of .ensures) (c .before .before .before .before .before .right-of .ensures) (c .before .before .add-part .ensures)
+    let cells = a .cells .now in
+    let bodies = a .bodies .now in
+    let loop = c .before .before .before .before .before .before .before .before .before .loop in
+    let is-choice = c .before .before .before .before .before .before .before .before .is-choice in
+    let if1 = c .before .before .before .before .before .before .before .if1 in
+    let right-of = c .before .before .before .before .before .right-of in
+    let add-part = c .before .before .add-part in
+    let choice = is-choice .ensures .0 (subst⁻¹ T (if1 .taken) tt) in
+    let small : loop .at < 256 = omega (arith, choice .inside, s .pre .1 .1) in
+    choosing-more cells bodies (loop .inv) choice small (c .left-of .ensures) (right-of .ensures) (add-part .ensures)
 
-join-choice-slice-aggregate-add-part-3 : (t : ℕ) → join-choice-lts.Need-slice-aggregate-add-part-3 (join-choice-claims t) (join-choice-at t) join-choice.Post join-choice-Inv-loop join-choice-μ-loop
+join-choice-slice-aggregate-add-part-3 : (t : ℕ)
+    → join-choice-lts.Need-slice-aggregate-add-part-3 (join-choice-claims t) (join-choice-at t) join-choice.Post Inv-loop μ-loop
 join-choice-slice-aggregate-add-part-3 t c = search needs
 
-join-choice-slice-aggregate-add-part-4 : (t : ℕ) → join-choice-lts.Need-slice-aggregate-add-part-4 (join-choice-claims t) (join-choice-at t) join-choice.Post join-choice-Inv-loop join-choice-μ-loop
+join-choice-slice-aggregate-add-part-4 : (t : ℕ)
+    → join-choice-lts.Need-slice-aggregate-add-part-4 (join-choice-claims t) (join-choice-at t) join-choice.Post Inv-loop μ-loop
 join-choice-slice-aggregate-add-part-4 t c = search needs
 
-join-choice-add-part-requires-2 : (t : ℕ) → join-choice-lts.Need-add-part-requires-2 (join-choice-claims t) (join-choice-at t) join-choice.Post join-choice-Inv-loop join-choice-μ-loop
+join-choice-add-part-requires-2 : (t : ℕ)
+    → join-choice-lts.Need-add-part-requires-2 (join-choice-claims t) (join-choice-at t) join-choice.Post Inv-loop μ-loop
 join-choice-add-part-requires-2 t c κs =
-    let s = c .before .before .before .before .before .before .before .before .before .before .before .before in
+    let early = c .before .before .before .before .before .before .before .before .before .before in
+    let s = early .before .before in
     let a = s .args in
+    let cells = a .cells .now in
+    let bodies = a .bodies .now in
+    let copy = c .before .before .before .before .before .before .copy in
+    let loop = c .before .before .before .before .loop in
+    let is-choice = c .before .before .before .is-choice in
+    let if1 = c .before .before .if1 in
     let at : a .bound * 2048 + 4 * weight (a .place) ≡ t = s .pre .0 in
     let small : a .place < 256 = omega (arith, s .pre .1 .4 .inside, s .pre .1 .1) in
-    let other : c .before .before .before .before .loop .at ≡ a .place → ⊥ = λ e. subst T (c .before .before .if1 .left) (c .before .before .before .is-choice .ensures .1 (subst⁻¹ (Choice (a .cells .now)) e (s .pre .1 .4))) in
-    let less = lighter-other (a .place) (c .before .before .before .before .loop .at) small (c .before .before .before .before .loop .inv .falls) other in
-    (omega (arith, at, less), (s .pre .1 .0, s .pre .1 .1, ap length (c .before .before .before .before .before .before .copy .ensures) ∙ s .pre .1 .2, c .before .before .before .before .loop .inv .room, c .before .before .before .before .loop .inv .ends))
+    let other : loop .at ≡ a .place → ⊥ = λ e. subst T (if1 .left) (is-choice .ensures .1 (subst⁻¹ (Choice cells) e (s .pre .1 .4))) in
+    let less = lighter-other (a .place) (loop .at) small (loop .inv .falls) other in
+    (omega (arith, at, less), (s .pre .1 .0, s .pre .1 .1, ap length (copy .ensures) ∙ s .pre .1 .2, loop .inv .room, loop .inv .ends))
 
-join-choice-slice-aggregate-copy-2 : (t : ℕ) → join-choice-lts.Need-slice-aggregate-copy-2 (join-choice-claims t) (join-choice-at t) join-choice.Post join-choice-Inv-loop join-choice-μ-loop
+join-choice-slice-aggregate-copy-2 : (t : ℕ)
+    → join-choice-lts.Need-slice-aggregate-copy-2 (join-choice-claims t) (join-choice-at t) join-choice.Post Inv-loop μ-loop
 join-choice-slice-aggregate-copy-2 t c = search needs
 
-join-choice-copy-requires-2 : (t : ℕ) → join-choice-lts.Need-copy-requires-2 (join-choice-claims t) (join-choice-at t) join-choice.Post join-choice-Inv-loop join-choice-μ-loop
+join-choice-copy-requires-2 : (t : ℕ)
+    → join-choice-lts.Need-copy-requires-2 (join-choice-claims t) (join-choice-at t) join-choice.Post Inv-loop μ-loop
 join-choice-copy-requires-2 t c κs = search needs
 
-join-choice-same-length : (t : ℕ) → join-choice-lts.Need-same-length (join-choice-claims t) (join-choice-at t) join-choice.Post join-choice-Inv-loop join-choice-μ-loop
+join-choice-same-length : (t : ℕ)
+    → join-choice-lts.Need-same-length (join-choice-claims t) (join-choice-at t) join-choice.Post Inv-loop μ-loop
 join-choice-same-length t c = search needs
 
-join-choice-returns : (t : ℕ) → join-choice-lts.Need-returns (join-choice-claims t) (join-choice-at t) join-choice.Post join-choice-Inv-loop join-choice-μ-loop
+join-choice-returns : (t : ℕ) → join-choice-lts.Need-returns (join-choice-claims t) (join-choice-at t) join-choice.Post Inv-loop μ-loop
 join-choice-returns t c =
-    let s = c .before .before .before .before .before .before .before .before .before .before .before .before .before .before .before .before .before .before .before in
+    let early = c .before .before .before .before .before .before .before .before .before .before in
+    let s = early .before .before .before .before .before .before .before .before .before in
     let a = s .args in
-    put-back (a .cells .now) (a .bodies .now) (c .before .before .copy2 .ensures) (from-start (a .cells .now) (a .bodies .now) (c .before .before .before .before .before .before .before .before .before .before .before .before .before .copy .ensures)
-    (choosing-ends (a .cells .now) (a .bodies .now) (c .before .before .before .before .before .before .before .before .before .before .before .loop .inv) (c .before .before .before .before .before .before .add-part2 .ensures)))
+    let cells = a .cells .now in
+    let bodies = a .bodies .now in
+    let copy = early .before .before .before .copy in
+    let loop = early .before .loop in
+    let add-part2 = c .before .before .before .before .before .before .add-part2 in
+    let copy2 = c .before .before .copy2 in
+    put-back cells bodies (copy2 .ensures) (from-start cells bodies (copy .ensures)
+    (choosing-ends cells bodies (loop .inv) (add-part2 .ensures)))
 
 pub +add-part+join+join-body+join-choice-spec : {M : Type 1} → statement M
 +add-part+join+join-body+join-choice-spec =
@@ -547,8 +717,8 @@ pub +add-part+join+join-body+join-choice-spec : {M : Type 1} → statement M
     (join-choice-claims t)
     (join-choice-at t)
     join-choice.Post
-    join-choice-Inv-loop
-    join-choice-μ-loop
+    Inv-loop
+    μ-loop
     (join-choice-slice-aggregate-copy t)
     (join-choice-copy-requires t)
     (join-choice-loop-holds t)

@@ -37,8 +37,9 @@ returns c =
     let a = s .args in
     let written = c .before .before .masks .ensures in
     λ senses x.
-    let e = masks-are-ready (a .cells .now) (a .bodies .now) (a .place) (s .pre .4) (s .pre .3) (c .before .before .before .before .before .before .before .before .before .only-empty .ensures .1)
-    (c .before .before .before .before .before .before .join .ensures) senses x in (
+    let family = c .before .before .before .before .before .before .before .before .before .only-empty .ensures in
+    let joined = c .before .before .before .before .before .before .join .ensures in
+    let e = masks-are-ready (a .cells .now) (a .bodies .now) (a .place) (s .pre .4) (s .pre .3) (family .1) joined senses x in (
       written .0 ∙ ap (λ (l : List ℕ). min 9 (length l)) e,
       written .1 ∙ ap (λ (l : List ℕ). front (take 8 l) (a .out .now)) e,
     )
