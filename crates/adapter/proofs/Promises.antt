@@ -1,6 +1,6 @@
 -- The promises over the entry points' contracts. What connecting ensures is what `connectOf` gives, the check of a plan `checkPlanOf`, and
--- converting `convertInto`; so `demand-3`, `settled-runs`, `refused-for-good`, `any-hand`, `any-hand-settles`, `ours-pass` and `converting`
--- speak of them.
+-- converting `convertInto` and `textInto`; so `demand-3`, `settled-runs`, `refused-for-good`, `any-hand`, `any-hand-settles`, `ours-pass`,
+-- `converting`, `typing` and `fault-says` speak of them.
 -- Assumes nothing.
 use mathlib.Core.Path.{_≡_, sym, ap, subst, subst⁻¹, _∙_}
 use mathlib.Core.List.{List}
@@ -30,8 +30,13 @@ use Rattle.edits.proofs.AnyHand.{any-hand, any-hand-settles}
 use Rattle.edits.proofs.Ours.{ours-pass}
 use Rattle.choosing.specs.Promises.{ConvertingSays}
 use Rattle.choosing.proofs.Says.{converting}
+use Rattle.nodes.specs.Answer.{Written, writtenBy}
+use Rattle.text.specs.Convert.{textInto}
+use Rattle.text.specs.Promises.{TextSays, FaultOf}
+use Rattle.text.proofs.Says.{typing}
+use Rattle.text.proofs.Faults.{fault-says}
 use Rattle.adapter.specs.Promises.{RunsByAnswers, EntryDemand-3, EntrySettledRuns, EntryRefusedForGood, EntryAnyHand, EntryAnyHandSettles}
-use Rattle.adapter.specs.Promises.{EntryOursPass, EntryConverting}
+use Rattle.adapter.specs.Promises.{EntryOursPass, EntryConverting, EntryTyping, EntryTextFault}
 
 module _ (mode : Mode) (k : ℕ) (old new : List ℕ) (answer : Answer) (work work′ : List Record) (plan plan′ : List ℕ)
     (ensured : record { answer = answerOf answer; plan = plan′; work = work′ } ≡ connectOf blank mode k old new work plan) where
@@ -110,3 +115,12 @@ entry-refused-for-good mode k old new answer work work′ plan plan′ ensured z
 pub entry-converting : EntryConverting
 entry-converting choosing answer sheet sheet′ small ensured =
     subst⁻¹ (ConvertingSays choosing sheet) ensured (converting choosing sheet small)
+
+pub entry-typing : EntryTyping
+entry-typing text answer sheet sheet′ ensured = subst⁻¹ (TextSays text sheet) ensured (typing text sheet)
+
+pub entry-text-fault : EntryTextFault
+unfolding writtenBy
+entry-text-fault text answer sheet sheet′ fault ensured is =
+    subst⁻¹ (λ (n : ℕ). FaultOf text n fault) (ap (λ (w : Written). w .number) ensured)
+    (subst⁻¹ (FaultOf text (textInto text sheet .number)) is (fault-says text sheet))

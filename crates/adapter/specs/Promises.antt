@@ -1,4 +1,4 @@
--- Demand 3, what a no means, what a settled plan does, what a check of a plan says, and what converting says, in the words of the entry
+-- Demand 3, what a no means, what a settled plan does, what a check of a plan says, and what converting says, of choosing sheets and of texts, in the words of the entry
 -- points' own contracts: what each ensures of its answer. The mode is the one that the entry point is told, or the paper's.
 -- Assumes nothing.
 use mathlib.Core.Path.{_≡_}
@@ -33,6 +33,8 @@ use Rattle.nodes.specs.declared.SheetAnswer as nodes
 use Rattle.choosing.specs.Convert.{convertInto}
 use Rattle.choosing.specs.Promises.{ConvertingSays}
 use Rattle.nodes.specs.Answer.{writtenBy}
+use Rattle.text.specs.Convert.{textInto, textFaultOf}
+use Rattle.text.specs.Promises.{TextSays, FaultOf}
 
 -- what holds of a plan's bytes, for a list of attempts with a client
 pub record RunsByAnswers (k : ℕ) (client old : List ℕ) (user new : Contract) (bytes : List ℕ) (attempts : List Attempt) : Type 0 where
@@ -102,3 +104,15 @@ abbrev pub EntryConverting : Type 0
 EntryConverting =
     (choosing : List ℕ) (answer : nodes.SheetAnswer) (sheet sheet′ : List ℕ) → ((i : ℕ) → byte choosing i < 256)
     → writtenBy answer sheet′ ≡ convertInto choosing sheet → ConvertingSays choosing sheet (writtenBy answer sheet′)
+
+-- Whatever converting a text ensured of its answer and of the lent output says what it should of the text.
+abbrev pub EntryTyping : Type 0
+EntryTyping =
+    (text : List ℕ) (answer : nodes.SheetAnswer) (sheet sheet′ : List ℕ)
+    → writtenBy answer sheet′ ≡ textInto text sheet → TextSays text sheet (writtenBy answer sheet′)
+
+-- And so does whatever the entry for the byte at fault ensured, of the number that converting answered: for 22 and 23 where, else 0.
+abbrev pub EntryTextFault : Type 0
+EntryTextFault =
+    (text : List ℕ) (answer : nodes.SheetAnswer) (sheet sheet′ : List ℕ) (fault : ℕ)
+    → writtenBy answer sheet′ ≡ textInto text sheet → fault ≡ textFaultOf text → FaultOf text (answer .number) fault

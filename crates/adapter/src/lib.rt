@@ -13,6 +13,7 @@ ghost use Rattle.edits.specs.Check.{checkPlanOf, planFaultOf};
 ghost use Rattle.edits_walk.specs.Faults.{faultBy};
 ghost use Rattle.choosing.specs.Convert.{convertInto};
 ghost use Rattle.nodes.specs.Answer.{writtenBy};
+ghost use Rattle.text.specs.Convert.{textInto, textFaultOf};
 ghost use Rattle.named_row.specs.Row.{rowPartOf, rowRefusalOf};
 ghost use Rattle.named_row.specs.Answers.{partOf, refusalOf};
 use comply::Compliance;
@@ -101,6 +102,22 @@ pub extern "C" fn adapter_from_choosing(choosing: &[u8], sheet: &mut [u8]) -> no
     ensures outcome { λ r. ⌜ writtenBy r (now (sheet .exit)) ≡ convertInto (now (choosing .entry)) (now (sheet .entry)) ⌝ }
 {
     convert::convert(choosing, sheet)
+}
+
+// `text_sheet::from_text`.
+#[no_mangle]
+pub extern "C" fn adapter_from_text(text: &[u8], sheet: &mut [u8]) -> nodes::SheetAnswer
+    ensures outcome { λ r. ⌜ writtenBy r (now (sheet .exit)) ≡ textInto (now (text .entry)) (now (sheet .entry)) ⌝ }
+{
+    text_sheet::from_text(text, sheet)
+}
+
+// `text_sheet::text_fault`.
+#[no_mangle]
+pub extern "C" fn adapter_text_fault(text: &[u8]) -> u16
+    ensures { λ r. ⌜ r ≡ textFaultOf (now (text .entry)) ⌝ }
+{
+    text_sheet::text_fault(text)
 }
 
 // `named_row::row_part`: the part that `named_row::row_bytes` hands back, told by numbers, as no exported function can return a reference.

@@ -1,7 +1,7 @@
 // Answers the cases that stand on standard input, each behind its length. tests/reference makes them and says what is to be printed for
 // each; its README has the form of every kind.
-mod choosing_sheets;
 mod clients;
+mod converting;
 mod lines;
 mod rows;
 mod sheets;
@@ -17,6 +17,7 @@ pub enum Kind {
     Choosing,
     Edits,
     Rows,
+    Texts,
 }
 
 fn answer(kind: Kind, case: &[u8]) {
@@ -26,9 +27,10 @@ fn answer(kind: Kind, case: &[u8]) {
         Kind::Steps => steps::answer(case),
         Kind::Clients => clients::answer(case),
         Kind::Runs => runs::answer(case),
-        Kind::Choosing => choosing_sheets::answer(case),
+        Kind::Choosing => converting::answer(false, case),
         Kind::Edits => lent::answer_plan(case),
         Kind::Rows => rows::answer(case),
+        Kind::Texts => converting::answer(true, case),
     }
 }
 

@@ -135,10 +135,11 @@ StopsAt s at =
 abbrev pub LetterAt : List ℕ → ℕ → Type 0
 LetterAt s at = (v : ℕ) × (v ≤ 2) × (at < length s) × (byte s at ≡ 88 + v)
 
--- For 22 where no derivation can go on, for 23 a variable, 0 else.
+-- What a byte at fault says beside a number: for 22 where no derivation can go on, for 23 a variable; else it is 0.
+abbrev pub FaultOf : (s : List ℕ) (number at : ℕ) → Type 0
+FaultOf s number at =
+    (number ≡ 22 → StopsAt s at) × (number ≡ 23 → LetterAt s at) × ((number ≡ 22 → ⊥) → (number ≡ 23 → ⊥) → at ≡ 0)
+
+-- Every byte at fault says what it should, for all bytes.
 abbrev pub FaultSays : Type 0
-FaultSays =
-    (s out : List ℕ)
-    → (textInto s out .number ≡ 22 → StopsAt s (textFaultOf s))
-    × (textInto s out .number ≡ 23 → LetterAt s (textFaultOf s))
-    × ((textInto s out .number ≡ 22 → ⊥) → (textInto s out .number ≡ 23 → ⊥) → textFaultOf s ≡ 0)
+FaultSays = (s out : List ℕ) → FaultOf s (textInto s out .number) (textFaultOf s)

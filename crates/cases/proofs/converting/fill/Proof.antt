@@ -1,11 +1,11 @@
--- `cases::choosing_sheets::fill` is safe and ends: the measure is the number of bytes that are left, and the output keeps its length.
+-- `cases::converting::fill` is safe and ends: the measure is the number of bytes that are left, and the output keeps its length.
 -- Assumes nothing.
 use mathlib.Core.Path.{_≡_}
 use Prim.Native.Nat.{_≤_, _-_}
 use lib.ListN.{length}
 use borrow.Author.Needs.{needs}
-use Rattle.cases.proofs.choosing_sheets.fill.Statement.{statement}
-use Rattle.cases.proofs.choosing_sheets.fill.Tie as tie
+use Rattle.cases.proofs.converting.fill.Statement.{statement}
+use Rattle.cases.proofs.converting.fill.Tie as tie
 
 abbrev Inv-loop : tie.InvT-loop
 Inv-loop output₀ room i₀ output i = (i ≤ room) × (room ≡ length output)

@@ -1,10 +1,10 @@
--- `cases::choosing_sheets::lend` is safe: the part of the output that is lent is as long as asked.
+-- `cases::converting::lend` is safe: the part of the output that is lent is as long as asked.
 -- Assumes nothing.
 use native.Mathlib.Omega.{arith}
 use lib.ListN.{length-take}
 use borrow.Author.Needs.{needs}
-use Rattle.cases.proofs.choosing_sheets.lend.Statement.{statement}
-use Rattle.cases.proofs.choosing_sheets.lend.Tie as tie
+use Rattle.cases.proofs.converting.lend.Statement.{statement}
+use Rattle.cases.proofs.converting.lend.Tie as tie
 
 output-before-requires : tie.Need-output-before-requires
 output-before-requires c κs = search needs
