@@ -11,7 +11,7 @@ from pathlib import Path
 
 DOCUMENTS = [Path('README.md'), *sorted(Path('docs').glob('*.md')), Path('tests/README.md')]
 # the crates whose definitions and statements an auditor reads
-STATEMENTS = ('model', 'why', 'nodes', 'choosing', 'edits', 'named_row')
+STATEMENTS = ('model', 'why', 'nodes', 'choosing', 'text', 'edits', 'named_row')
 # words that stand for any name
 ANY = re.compile(r'\b(?:NAME|FUNCTION|File|crate/name|crates/crate)\b')
 
@@ -19,7 +19,7 @@ NAMES = r'((?:`[^`]+`(?:, | and )?)+)'
 # `name`, `name` (File), (proofs/File), (`path`, or in `path`; and the fields that follow a colon
 PLACED = re.compile(NAMES + r'(?: \(| in )(?:(proofs/)?([A-Z]\w+)|`([\w/]+\.(?:antt|rt|h))`)(?:\)(?:: ' + NAMES + ')?)?')
 EDITS = re.compile(r'\bedits?( of a contract| of contracts)? ((?:[a-z]\w*/\w+(?:, )?)+)')
-GROUPS = re.compile(r'\b(?:sheet|pair|step|client|run|choosing|edit|row)_cases ' + NAMES)
+GROUPS = re.compile(r'\b(?:sheet|pair|step|client|run|choosing|text|edit|row)_cases ' + NAMES)
 FUNCTION = re.compile(r'`(\w+)::(?:\w+::)*(\w+)`')
 # a name of ours by its form, with or without a field behind it: two words, or a capital letter
 WORD = re.compile(r'`([A-Za-z][\w′]*[-_A-Z][\w′-]*|[A-Z][a-z]+\w*)(?:\.(?!py|antt)([\w-]+))?`')

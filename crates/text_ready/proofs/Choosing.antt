@@ -17,7 +17,7 @@ use Rattle.text.specs.Cells.{Ends, Explained, cellAt, unpacked}
 use Rattle.text_ready.specs.Joined.{Family, Union, Absorbs}
 use Rattle.text_ready.specs.Ready.{Choice, readyBy, Settled, JoinedBy, Added}
 use Rattle.text_ready.proofs.Joins.{absorbs-either}
-use Rattle.text_ready.proofs.Ends.{weight, lighter, Parts, to-parts}
+use Rattle.text.proofs.Ends.{weight, lighter, Parts, to-parts}
 use Rattle.text_ready.proofs.Settled.{ready-place}
 
 -- ---- unions with either of two lists

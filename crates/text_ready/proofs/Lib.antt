@@ -1,5 +1,4 @@
 pub mod Joins
-pub mod Ends
 pub mod Settled
 pub mod Choosing
 pub mod Masks

@@ -11,7 +11,7 @@ use lib.ListN.{length, getD}
 use native.Mathlib.Nat.{pos-of-ne-zero}
 use Rattle.text.specs.Cells.{Ends}
 use Rattle.text_ready.specs.Ready.{Choice}
-use Rattle.text_ready.proofs.Ends.{weight, weight-most, lighter, lighter-other, to-body, rec-ends, inside-cells, link-small, parts-at, is-plus}
+use Rattle.text.proofs.Ends.{weight, weight-most, lighter, lighter-other, to-body, rec-ends, inside-cells, link-small, parts-at, is-plus}
 use Rattle.text_ready.proofs.Settled.{end-joined, prefix-joined, plus-joined, body-known, body-joined, body-noted, part-added, at-link, from-start, put-back}
 use Rattle.text_ready.proofs.Choosing.{Choosing, choosing-none, choosing-more, choosing-ends, parts-of}
 use borrow.Fn.Kinds.{In}
