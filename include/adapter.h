@@ -1,12 +1,12 @@
 /*
- * Connecting two service contracts, stepping a plan, checking a client against a service, converting a choosing sheet, checking a plan from
- * any hand, a row of a sheet: the proved library for C and C++.
+ * Connecting two service contracts, stepping a plan, checking a client against a service, converting a choosing sheet or a contract typed as
+ * text, checking a plan from any hand, a row of a sheet: the proved library for C and C++.
  *
  * `rt staticlib adapter` proves the library and writes it to target/staticlib/libadapter.a, for x86-64 Linux. It needs nothing else but
  * memcpy and memset of the C library. examples/c is a program that uses it. The rules, sheets and plans are those of document 01 with
  * request 2/13 of document 02, choosing sheets those of its request 1/13, the check of a plan that of its request 3/13, the settled mode
- * that of its request 5/13, offsets and rows those of its request 6/13; the words in quotation marks below are taken from them.
- * docs/FORMATS.md explains sheets and plans byte by byte, docs/GLOSSARY.md the words.
+ * that of its request 5/13, offsets and rows those of its request 6/13, texts those of its request 7/13; the words in quotation marks below
+ * are taken from them. docs/FORMATS.md explains sheets and plans byte by byte and has the grammar of texts, docs/GLOSSARY.md the words.
  *
  * What the caller promises. The proof begins here: of a call that breaks one of these, nothing is said.
  *   - Each pointer leads to as many elements as the length behind it says, in one object, all of them initialised; any values will do. A
@@ -21,8 +21,9 @@
  *   - All memory is the caller's, before and after. No pointer is kept when a call returns.
  *   - Nothing is allocated, and there is no global state. Calls on distinct buffers are re-entrant, and may run at the same time; what is
  *     only read may be shared between them.
- *   - There is no recursion. Of the stack, adapter_complies uses some 13 KiB, adapter_from_choosing some 5 KiB, the others less than 2 KiB;
- *     that is measured and not proved.
+ *   - There is recursion in adapter_from_text and adapter_text_fault alone, no deeper than the depth of a text, which is 16, and the bodies
+ *     of its recs allow. Of the stack these two use some 64 KiB, adapter_complies some 13 KiB, adapter_from_choosing some 5 KiB, the
+ *     others less than 2 KiB; that is measured and not proved.
  */
 #ifndef ADAPTER_H
 #define ADAPTER_H
@@ -35,13 +36,16 @@ extern "C" {
 #endif
 
 /* Rises with every change of this header. */
-#define ADAPTER_HEADER_VERSION 6
+#define ADAPTER_HEADER_VERSION 7
 
 /*
- * The bytes of the longest sheet. A longer one is refused as ADAPTER_LENGTH. With this much lent, no choosing sheet is refused as
- * ADAPTER_ROOM.
+ * The bytes of the longest sheet. A longer one is refused as ADAPTER_LENGTH. With this much lent, no choosing sheet and no text is refused
+ * as ADAPTER_ROOM.
  */
 #define ADAPTER_LONGEST_SHEET 2118
+
+/* The bytes of the longest text, blanks counted. A longer one is refused as ADAPTER_LENGTH. */
+#define ADAPTER_LONGEST_TEXT 256
 
 /*
  * The most situations of two sheets, the most states of a plan, and the most pairs of plan state and situation in a check of a plan. More
@@ -62,7 +66,7 @@ extern "C" {
  */
 enum adapter_refusal {
     ADAPTER_ACCEPTED = 0,
-    ADAPTER_LENGTH = 1,      /* sheet below 6 or above 2,118 bytes */
+    ADAPTER_LENGTH = 1,      /* sheet below 6 or above 2,118 bytes, or text above 256 */
     ADAPTER_TRAILER = 2,     /* count, n, role or closing byte wrong */
     ADAPTER_INDEX = 3,       /* index offset + 2 times states + 6 is not the length */
     ADAPTER_ROW = 4,         /* row not where the index says, past the index, or a gap after the last */
@@ -82,7 +86,9 @@ enum adapter_refusal {
     ADAPTER_CIRCLE = 18,     /* a circle of internal moves, reached or not */
     ADAPTER_STATES = 19,     /* more than 64 states */
     ADAPTER_READY_SETS = 20, /* more than 8 ready sets in a state */
-    ADAPTER_UNSOUND = 21     /* unsound plan */
+    ADAPTER_UNSOUND = 21,    /* unsound plan */
+    ADAPTER_GRAMMAR = 22,    /* text outside the grammar or too deep */
+    ADAPTER_VARIABLE = 23    /* a variable unbound or under no prefix within its rec */
 };
 
 /*
@@ -148,8 +154,8 @@ struct adapter_complies_answer {
 
 /* What converting answers, in 6 bytes. The byte between the fields means nothing. */
 struct adapter_sheet_answer {
-    uint8_t number;  /* ADAPTER_ACCEPTED, ADAPTER_CHOOSING, ADAPTER_CIRCLE, ADAPTER_STATES, ADAPTER_READY_SETS or ADAPTER_ROOM */
-    uint8_t sheet;   /* 0 */
+    uint8_t number;  /* an enum adapter_refusal: of a choosing sheet 0, 13 or 17 to 20, of a text 0, 1, 13, 19, 20, 22 or 23 */
+    uint8_t sheet;   /* 1 for refusal 1; else 0 */
     uint8_t state;   /* 0 */
     uint16_t length; /* of the sheet that was written, in bytes; 0 on a refusal */
 };
@@ -239,6 +245,37 @@ struct adapter_complies_answer adapter_complies(const uint8_t *client, size_t cl
  *   0               its first `length` bytes are the sheet; bytes beyond it are untouched
  */
 struct adapter_sheet_answer adapter_from_choosing(const uint8_t *choosing, size_t choosing_len, uint8_t *sheet, size_t sheet_len);
+
+/*
+ * Converts a contract typed as text, "in the paper's notation", to an ordinary sheet of a service with n 7. "0 is the end; a to g take, !a
+ * to !g send; a dot prefixes, and an action with no dot after it is followed by the end; + is external choice; (+) is internal choice; rec
+ * X. binds one of X, Y, Z; brackets group. Prefix and rec bind tightest, then +, then (+), both grouping to the left." The sheet has "the
+ * ready sets and continuations that document 000 gives the term".
+ *
+ * A text ends where its length says, and not at a zero byte. Blanks (20 hex) are "dropped wherever they are before reading"; tabs, line ends
+ * and zero bytes are outside the grammar. Brackets, prefixes and recs may stand 16 deep, "an action counting itself". A variable belongs to
+ * the nearest rec of its name.
+ *
+ * The first refusal of 1, 22, 23, 19, 20 and 13, in this order, is the answer. After the call:
+ *
+ *   number                      the lent output
+ *   1, 13, 19, 20, 22, 23       unchanged
+ *   0                           its first `length` bytes are the sheet; bytes beyond it are untouched
+ */
+struct adapter_sheet_answer adapter_from_text(const uint8_t *text, size_t text_len, uint8_t *sheet, size_t sheet_len);
+
+/*
+ * Where a text is at fault that adapter_from_text refuses as ADAPTER_GRAMMAR or ADAPTER_VARIABLE. Neither call has to come before the other.
+ * What is given back counts from the text's first byte, which has offset 0, blanks counted:
+ *
+ *   ADAPTER_GRAMMAR      the byte at which no derivation can go on: what stands before it begins a text that the grammar derives within the
+ *                        depth, and with the byte it begins none. The length of the text if it only ends too early.
+ *   ADAPTER_VARIABLE     the first variable that is unbound or under no prefix within its rec
+ *   any other number     0
+ *
+ * The first byte may be at fault: it is the number of adapter_from_text that says whether one is.
+ */
+uint16_t adapter_text_fault(const uint8_t *text, size_t text_len);
 
 /*
  * Whether a plan holds for two service sheets, whoever wrote it or edited it; the sheets as for connecting, the old one first. The mode is

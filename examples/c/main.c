@@ -2,8 +2,9 @@
  * Connects the pair M1 of document 01, prints the answer and the plan, steps the plan, checks a client of the old service, and converts a
  * choosing sheet. Then it checks the plan, strikes its move out, checks it again and says what is at fault. Then it connects the pair M4 in
  * both modes: the paper's gives a plan, which takes the client's message and never delivers it, the settled one none. So the plan does not
- * pass when it is checked as a settled one. Last it prints a row of M1's new sheet, has a damaged copy of that sheet refused and says where
- * the byte at fault is, and asks for the row of a state that is not there.
+ * pass when it is checked as a settled one. Then it prints a row of M1's new sheet, has a damaged copy of that sheet refused and says where
+ * the byte at fault is, and asks for the row of a state that is not there. Last it converts a contract typed as text, and says where three
+ * others are at fault: one is outside the grammar, one has a variable that no rec binds, one ends too early.
  */
 #include <stdio.h>
 #include <string.h>
@@ -261,6 +262,39 @@ static void show_rows(void)
     show_row(&m1, 2, 2);
 }
 
+/* Converts a text and prints the sheet, or the number of the refusal and where the text is at fault. */
+static void show_text(const char *text)
+{
+    size_t length = strlen(text);
+    const uint8_t *bytes = (const uint8_t *)text;
+    struct adapter_sheet_answer answer = adapter_from_text(bytes, length, sheet, sizeof sheet);
+    printf("%s: number %u", text, (unsigned)answer.number);
+    if (answer.number == ADAPTER_ACCEPTED) {
+        printf(", sheet ");
+        print_bytes(sheet, 0, answer.length, "");
+    } else if (answer.number == ADAPTER_GRAMMAR || answer.number == ADAPTER_VARIABLE) {
+        uint16_t at = adapter_text_fault(bytes, length);
+        if (at < length) {
+            printf(", byte %u, which is %c", (unsigned)at, text[at]);
+        } else {
+            printf(", byte %u, where the text ends", (unsigned)at);
+        }
+    }
+    printf("\n");
+}
+
+/*
+ * A service that takes a, and then sends b and begins again or takes c and ends. Its sheet has three states: 0 leads by a to 1, which leads
+ * by c to 2, the end, and by !b to 0. The other texts want a +, an X for their Y, and a bracket.
+ */
+static void show_texts(void)
+{
+    show_text("rec X.a.(!b.X + c)");
+    show_text("rec X.a.(!b.X c)");
+    show_text("rec X.a.(!b.Y + c)");
+    show_text("rec X.a.(!b.X + c");
+}
+
 int main(void)
 {
     struct adapter_answer answer =
@@ -291,5 +325,6 @@ int main(void)
 
     show_modes();
     show_rows();
+    show_texts();
     return 0;
 }

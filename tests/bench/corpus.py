@@ -9,14 +9,15 @@ The pairs of `plans` are connected, and then their plans checked.  Two files,
 `choosing` and `random-choosing`, are of the records that choosing_corpus.py
 has, two, `clients` and `random-clients`, of those of clients_corpus.py, two,
 `rows` and `random-rows`, of those of rows_corpus.py, and one, `random-plans`,
-of those of plans_corpus.py.  Every run writes the same bytes.
+of those of plans_corpus.py.  Two, `texts` and `random-texts`, are of those of
+texts_corpus.py.  Every run writes the same bytes.
 """
 
 import sys
 from pathlib import Path
 from typing import NamedTuple
 
-from tests.bench import choosing_corpus, clients_corpus, plans_corpus, rows_corpus
+from tests.bench import choosing_corpus, clients_corpus, plans_corpus, rows_corpus, texts_corpus
 from tests.bench.shop import NAMES, NO_RECEIPT, PAYMENT_FIRST, SHOP
 from tests.reference.actions import mask_of as mask
 from tests.reference.chance import Chance
@@ -266,6 +267,8 @@ def main(folder):
         ("random-clients", clients_corpus.random_inputs()),
         ("choosing", choosing_corpus.inputs()),
         ("random-choosing", choosing_corpus.random_inputs()),
+        ("texts", texts_corpus.inputs()),
+        ("random-texts", texts_corpus.random_inputs()),
         ("rows", rows_corpus.inputs()),
         ("random-rows", rows_corpus.random_inputs()),
     ):

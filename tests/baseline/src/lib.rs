@@ -28,6 +28,7 @@ pub use connect::Workspace;
 pub use edits::{Checker, Fault};
 pub use plan::step;
 pub use row::{row, row_refusal, Part};
+pub use term::LONGEST_TEXT;
 pub use text::{from_text, text_fault};
 
 /// The length of the longest sheet.

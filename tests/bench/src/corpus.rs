@@ -1,5 +1,5 @@
-//! The files of inputs that corpus.py writes, with choosing_corpus.py, clients_corpus.py, plans_corpus.py and
-//! rows_corpus.py.
+//! The files of inputs that corpus.py writes, with choosing_corpus.py, clients_corpus.py, plans_corpus.py, rows_corpus.py
+//! and texts_corpus.py.
 
 use crate::connector::Call;
 use baseline::Mode;
@@ -30,6 +30,13 @@ pub struct Check {
 
 /// A choosing sheet to be converted.
 pub struct Choosing {
+    pub name: String,
+    pub bytes: Vec<u8>,
+    pub room: usize,
+}
+
+/// A text to be converted.
+pub struct Text {
     pub name: String,
     pub bytes: Vec<u8>,
     pub room: usize,
@@ -79,6 +86,11 @@ impl Rest<'_> {
         Choosing { name, bytes: self.measured(2), room }
     }
 
+    fn text(&mut self) -> Text {
+        let (name, room) = (self.name(), self.number(2));
+        Text { name, bytes: self.measured(2), room }
+    }
+
     fn client(&mut self) -> Client {
         Client { name: self.name(), client: self.measured(2), service: self.measured(2) }
     }
@@ -121,6 +133,10 @@ pub fn checks(path: &Path) -> Vec<Check> {
 
 pub fn choosing(path: &Path) -> Vec<Choosing> {
     records(path, |rest| rest.choosing())
+}
+
+pub fn texts(path: &Path) -> Vec<Text> {
+    records(path, |rest| rest.text())
 }
 
 pub fn clients(path: &Path) -> Vec<Client> {

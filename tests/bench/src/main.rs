@@ -1,6 +1,6 @@
 //! `bench FOLDER` compares the connectors on all inputs of the folder, then times them on the benchmark's; the same for
-//! the settled mode, for the conversion of choosing sheets, for the check of clients, for rows of sheets and for the check
-//! of plans. `bench FOLDER describe` says what the benchmark's inputs are.
+//! the settled mode, for the conversion of choosing sheets and of texts, for the check of clients, for rows of sheets and
+//! for the check of plans. `bench FOLDER describe` says what the benchmark's inputs are.
 
 mod choosing;
 mod clients;
@@ -11,6 +11,7 @@ mod plans;
 mod product;
 mod rows;
 mod settled;
+mod texts;
 mod timing;
 
 use baseline::{Answer, Mode, LONGEST_PLAN};
@@ -104,6 +105,8 @@ fn main() {
     let settled = settled::compared(&mut connectors, &alike);
     let [choosing, random_choosing] = ["choosing", "random-choosing"].map(|name| corpus::choosing(&folder.join(name)));
     let converted = choosing::compared(&choosing);
+    let [typed, random_typed] = ["texts", "random-texts"].map(|name| corpus::texts(&folder.join(name)));
+    let read = texts::compared(&typed);
     let [clients, random_clients] = ["clients", "random-clients"].map(|name| corpus::clients(&folder.join(name)));
     let complying = clients::compared(&clients);
     let [rows, random_rows] = ["rows", "random-rows"].map(|name| corpus::rows(&folder.join(name)));
@@ -114,6 +117,7 @@ fn main() {
         lines::describe("input", FIGURES, lines);
         settled::describe(&alike, &settled);
         choosing::describe(&choosing, &converted);
+        texts::describe(&typed, &read);
         clients::describe(&clients, &complying);
         rows::describe(&rows, &found);
         plans::describe(&checked);
@@ -127,6 +131,8 @@ fn main() {
     println!("compared settled: these, and {} inputs in both modes", alike.len());
     choosing::compared(&random_choosing);
     println!("compared: {} choosing sheets, {} random ones", choosing.len(), random_choosing.len());
+    texts::compared(&random_typed);
+    println!("compared: {} texts, {} random ones", typed.len(), random_typed.len());
     clients::compared(&random_clients);
     println!("compared: {} clients, {} random ones", clients.len(), random_clients.len());
     rows::compared(&random_rows);
@@ -137,6 +143,8 @@ fn main() {
     timed(&mut connectors, &inputs, &answers);
     settled::timed(&mut connectors, &alike, &settled);
     choosing::timed(&choosing, &converted);
+    texts::timed(&typed, &read);
+    texts::slowest(typed.iter().chain(&random_typed));
     clients::timed(&clients, &complying);
     rows::timed(&rows, &found);
     plans::timed(&checked);

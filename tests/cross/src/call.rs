@@ -9,6 +9,7 @@ pub enum Call {
     Step(Step),
     Complies(Complies),
     FromChoosing(FromChoosing),
+    FromText(FromText),
     CheckPlan(CheckPlan),
     Row(Row),
 }
@@ -45,6 +46,14 @@ pub struct Complies {
 #[derive(Clone, Debug, Default, PartialEq, Eq)]
 pub struct FromChoosing {
     pub choosing: Vec<u8>,
+    pub room: usize,
+    pub null: bool,
+}
+
+/// The conversion of a text, and where it is at fault: both are called, one after the other.
+#[derive(Clone, Debug, Default, PartialEq, Eq)]
+pub struct FromText {
+    pub text: Vec<u8>,
     pub room: usize,
     pub null: bool,
 }
@@ -167,6 +176,7 @@ impl Call {
             Call::Step(_) => "step",
             Call::Complies(_) => "complies",
             Call::FromChoosing(_) => "from_choosing",
+            Call::FromText(_) => "from_text",
             Call::CheckPlan(_) => "check_plan",
             Call::Row(_) => "row",
         }
@@ -178,7 +188,7 @@ impl Call {
             Call::Connect(Connect { old, new, .. }) | Call::CheckPlan(CheckPlan { old, new, .. }) => (old, new),
             Call::Complies(Complies { client, service, .. }) => (client, service),
             Call::Row(Row { first, second, .. }) => (first, second),
-            Call::Step(_) | Call::FromChoosing(_) => return None,
+            Call::Step(_) | Call::FromChoosing(_) | Call::FromText(_) => return None,
         };
         match number {
             1 => Some(first),
@@ -208,6 +218,9 @@ impl Call {
             ],
             Call::FromChoosing(FromChoosing { choosing, room, null }) => vec![
                 ("choosing", Field::Bytes(choosing)), ("room", Field::Size(room)), ("null", Field::Flag(null)),
+            ],
+            Call::FromText(FromText { text, room, null }) => vec![
+                ("text", Field::Bytes(text)), ("room", Field::Size(room)), ("null", Field::Flag(null)),
             ],
             Call::CheckPlan(CheckPlan { mode, old, new, plan, records, null, small }) => vec![
                 ("mode", Field::Byte(mode)),
@@ -239,6 +252,7 @@ impl Call {
             "step" => Call::Step(Step::default()),
             "complies" => Call::Complies(Complies::default()),
             "from_choosing" => Call::FromChoosing(FromChoosing::default()),
+            "from_text" => Call::FromText(FromText::default()),
             "check_plan" => Call::CheckPlan(CheckPlan::default()),
             "row" => Call::Row(Row::default()),
             _ => return None,
@@ -264,11 +278,13 @@ mod tests {
         let step = Step { plan: vec![0, 0xFF], state: 65535, code: 255, null: true };
         let complies = Complies { client: vec![9], ..Complies::default() };
         let converted = FromChoosing { choosing: vec![1, 0xC6], room: 2118, null: true };
+        let typed = FromText { text: b"rec X.a".to_vec(), room: 11, null: true };
         let checked = CheckPlan { mode: 128, ..CheckPlan::new(&mut chance, vec![2], vec![], vec![3, 0xEE], 4097) };
         let shown = Row { first: vec![4], second: vec![0xC5, 5], sheet: 2, state: 63, null: true };
         let connecting = [connect, settled].map(Call::Connect);
-        let others = [Call::Step(step), Call::Complies(complies), Call::FromChoosing(converted)];
-        for call in connecting.into_iter().chain(others).chain([Call::CheckPlan(checked), Call::Row(shown)]) {
+        let others = [Call::Step(step), Call::Complies(complies), Call::CheckPlan(checked), Call::Row(shown)];
+        let converting = [Call::FromChoosing(converted), Call::FromText(typed)];
+        for call in connecting.into_iter().chain(others).chain(converting) {
             assert_eq!(Call::read(&format!("# why\n{}", call.text())), Some(call));
         }
         assert_eq!(Call::read("connect\nmode 1\n"), None);

@@ -16,4 +16,5 @@ pub mod runner;
 pub mod smaller;
 pub mod tally;
 pub mod target;
+pub mod text;
 pub mod untidy;

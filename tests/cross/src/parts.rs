@@ -13,6 +13,7 @@ mod pairs;
 mod rows;
 mod single;
 mod steps;
+mod texts;
 mod untidy;
 
 use crate::call::{Call, Connect};
@@ -34,7 +35,7 @@ impl Share {
 type Part = fn(&mut Runner, &mut Chance, Share) -> Checked;
 
 /// The parts, by name.
-pub const PARTS: [(&str, Part); 26] = [
+pub const PARTS: [(&str, Part); 30] = [
     ("nothing lent, nothing given", empty::run),
     ("lengths at and beyond the limits", lengths::run),
     ("random bytes of all lengths", noise::run),
@@ -61,6 +62,10 @@ pub const PARTS: [(&str, Part); 26] = [
     ("every byte of sheets with rows changed", rows::single),
     ("every sheet number and every state", rows::numbers),
     ("rows at and beyond the limits", rows::lengths),
+    ("texts", texts::whole),
+    ("damaged texts", texts::with_faults),
+    ("every byte in every place of texts", texts::single),
+    ("texts of all lengths", texts::lengths),
 ];
 
 /// An emitted plan that is not trivial, of at most so many bytes.

@@ -1,8 +1,9 @@
-//! A smaller input with the same fault: states, rows and their ends, ready sets, actions and moves are left out, bytes
-//! are cut and lowered, numbers lowered, one after the other, for as long as something can be.
+//! A smaller input with the same fault: states, rows and their ends, ready sets, actions, moves and pieces of texts are
+//! left out, bytes are cut and lowered, numbers lowered, one after the other, for as long as something can be.
 
 use crate::call::{Call, Field};
 use crate::loose::{index_of, Loose};
+use crate::text::shorter;
 use std::ops::Range;
 use std::time::{Duration, Instant};
 
@@ -65,7 +66,7 @@ impl Search<'_> {
         self.bytes(field).map_or(0, |bytes| bytes.len())
     }
 
-    /// Leaves out of a sheet, a plan or a choosing sheet what can be left out.
+    /// Leaves out of a sheet, a plan, a choosing sheet or a text what can be left out.
     fn leave_out(&mut self, field: usize) -> bool {
         let mut smaller = false;
         while self.leaves_one_out(field).is_some() {
@@ -76,6 +77,7 @@ impl Search<'_> {
 
     fn leaves_one_out(&mut self, field: usize) -> Option<()> {
         let take_apart = match self.best.fields()[field].0 {
+            "text" => return self.leaves_piece_out(field),
             "plan" => Loose::plan,
             "choosing" => Loose::choosing,
             _ => Loose::sheet,
@@ -86,6 +88,14 @@ impl Search<'_> {
             without.is_some_and(|without| {
                 self.accepts(field, |field| field.bytes().into_iter().for_each(|bytes| *bytes = without.bytes()))
             })
+        });
+        found.then_some(())
+    }
+
+    fn leaves_piece_out(&mut self, field: usize) -> Option<()> {
+        let text = self.bytes(field)?.clone();
+        let found = shorter(&text).any(|text| {
+            self.accepts(field, |field| field.bytes().into_iter().for_each(|bytes| bytes.clone_from(&text)))
         });
         found.then_some(())
     }
@@ -144,7 +154,7 @@ fn lower_than(number: usize) -> Vec<usize> {
 #[cfg(test)]
 mod tests {
     use super::*;
-    use crate::call::{Complies, Step};
+    use crate::call::{Complies, FromText, Step};
 
     #[test]
     fn what_matters_is_left() {
@@ -154,6 +164,18 @@ mod tests {
             _ => false,
         });
         assert_eq!(small, Call::Step(Step { plan: vec![50], state: 13, code: 0, null: false }));
+    }
+
+    #[test]
+    fn brackets_and_pieces_go_from_a_text() {
+        let call = Call::FromText(FromText { text: b"((a.b)+((c))(+)0)".to_vec(), room: 99, null: true });
+        let small = smallest(&call, &mut |call| match call {
+            Call::FromText(FromText { text, .. }) => {
+                text.contains(&b'c') && baseline::from_text(text, &mut [0; 99]).number == 0
+            }
+            _ => false,
+        });
+        assert_eq!(small, Call::FromText(FromText { text: b"c".to_vec(), room: 0, null: false }));
     }
 
     #[test]

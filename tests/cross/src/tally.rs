@@ -1,19 +1,19 @@
 //! How often each outcome was met.
 
 use crate::at_fault::{at_fault, BYTES};
-use crate::call::{Call, CheckPlan, Connect, Row};
-use crate::target::{Figures, FAULT, ROUNDS, SITUATIONS, YES};
+use crate::call::{Call, CheckPlan, Connect, FromText, Row};
+use crate::target::{Figures, FAULT, ROUNDS, SHEET_LENGTH, SITUATIONS, TEXT_FAULT, YES};
 use crate::untidy::out_of_order_first;
 use baseline::MOST_SITUATIONS;
 
 /// The highest number of a refusal.
-const LAST: usize = 21;
+const LAST: usize = 23;
 
 const CONNECTING: &[usize] = &[0, 1, 2, 3, 4, 5, 6, 7, 8, 9, 10, 11, 12, 13];
 const CHECKING: &[usize] = &[0, 1, 2, 3, 4, 5, 6, 7, 8, 9, 11, 14, 21];
 
 /// The functions, those with a mode by its byte, and the numbers that each can answer.
-const FUNCTIONS: [(&str, &[usize]); 9] = [
+const FUNCTIONS: [(&str, &[usize]); 10] = [
     ("connect", CONNECTING),
     ("connect, 0", CONNECTING),
     ("connect, 1..", CONNECTING),
@@ -23,6 +23,7 @@ const FUNCTIONS: [(&str, &[usize]); 9] = [
     ("check, 0", CHECKING),
     ("check, 1..", CHECKING),
     ("row", &[0, 1, 2, 3, 4, 5, 6, 7, 8, 15]),
+    ("from_text", &[0, 1, 13, 19, 20, 22, 23]),
 ];
 
 /// The place of the client check among them.
@@ -45,8 +46,12 @@ pub struct Tally {
     yes: u64,
     /// Rows refused for a bit too many whose first mask at fault is out of order.
     out_of_order: u64,
-    /// Choosing sheets converted to sheets of fewer than 100 bytes, than 1,000, and more.
+    /// Choosing sheets converted to sheets of fewer than 100 bytes, than 1,000, and more; and texts.
     converted: [u64; 3],
+    typed: [u64; 3],
+    /// Texts at fault in a byte outside the grammar, at their end, in a variable; those with a blank before it.
+    text_faults: [u64; 3],
+    behind_blanks: u64,
     /// Unsound plans by the condition that fails first.
     conditions: [u64; 4],
     /// Plans refused for names other than both sheets'; for more pairs than there may be, whatever is lent.
@@ -55,6 +60,11 @@ pub struct Tally {
     /// Rows of the first sheet, and of the second; those found though the other sheet is broken.
     rows: [u64; 2],
     beside_broken: u64,
+}
+
+/// 0 for fewer than 100, 1 for fewer than 1,000, 2 for more.
+fn magnitude(length: u32) -> usize {
+    (length.ilog10() as usize).saturating_sub(1).min(2)
 }
 
 impl Tally {
@@ -70,6 +80,7 @@ impl Tally {
             Call::CheckPlan(CheckPlan { mode: 0, .. }) => 6,
             Call::CheckPlan(_) => 7,
             Call::Row(_) => 8,
+            Call::FromText(_) => 9,
         };
         self.numbers[function][number] += 1;
         if let Some(byte) = at_fault(call, figures) {
@@ -83,7 +94,11 @@ impl Tally {
             }
             Call::Complies(_) => self.yes += u64::from(figures[YES] == 1),
             Call::FromChoosing(_) if number == 0 => {
-                self.converted[(figures[3].ilog10() as usize).saturating_sub(1).min(2)] += 1;
+                self.converted[magnitude(figures[SHEET_LENGTH])] += 1;
+            }
+            Call::FromText(_) if number == 0 => self.typed[magnitude(figures[SHEET_LENGTH])] += 1,
+            Call::FromText(FromText { text, .. }) if number >= 22 => {
+                self.count_text(text, number, figures[TEXT_FAULT] as usize);
             }
             Call::CheckPlan(check) => self.count_check(check, figures),
             Call::Row(row) if number == 0 => self.count_row(row),
@@ -114,6 +129,15 @@ impl Tally {
         self.rows[usize::from(*sheet == 2)] += 1;
         let other = baseline::row_refusal(first, second, 3 - sheet, 0);
         self.beside_broken += u64::from(other.number > 0);
+    }
+
+    fn count_text(&mut self, text: &[u8], number: usize, at: usize) {
+        let kind = match number {
+            23 => 2,
+            _ => usize::from(at == text.len()),
+        };
+        self.text_faults[kind] += 1;
+        self.behind_blanks += u64::from(text[..at].contains(&b' '));
     }
 
     pub fn calls(&self) -> u64 {
@@ -149,6 +173,12 @@ impl Tally {
         }
         if self.converted.contains(&0) {
             missing.push("no choosing sheets were converted to tens, hundreds or thousands of bytes".into());
+        }
+        if self.typed.contains(&0) {
+            missing.push("no texts were converted to tens, hundreds or thousands of bytes".into());
+        }
+        if self.text_faults.contains(&0) || self.behind_blanks == 0 {
+            missing.push("no text was at fault in a byte, at its end and in a variable, or none behind blanks".into());
         }
         if self.conditions.contains(&0) {
             missing.push("no plan was unsound by each of the four conditions".into());
@@ -194,6 +224,11 @@ impl Tally {
         lines += &format!("refused for a bit too many, a mask out of order first: {}\n", self.out_of_order);
         let [tens, hundreds, thousands] = self.converted;
         lines += &format!("converted to bytes below 100: {tens}, below 1,000: {hundreds}, more: {thousands}\n");
+        let [tens, hundreds, thousands] = self.typed;
+        lines += &format!("texts to bytes below 100: {tens}, below 1,000: {hundreds}, more: {thousands}; ");
+        let [byte, end, variable] = self.text_faults;
+        lines += &format!("at fault in a byte: {byte}, at the end: {end}, in a variable: {variable}, ");
+        lines += &format!("behind blanks: {}\n", self.behind_blanks);
         let [buffer, meeting, test, second] = self.conditions;
         lines += &format!("unsound by a count: {buffer}, by a move that is not met: {meeting}, by the test: {test}, ");
         lines += &format!("by its second part: {second}; ");

@@ -1,6 +1,6 @@
 //! What is compared: anything that answers calls.
 
-use crate::call::{Call, CheckPlan, Complies, Connect, FromChoosing, Row, Step};
+use crate::call::{Call, CheckPlan, Complies, Connect, FromChoosing, FromText, Row, Step};
 use crate::guarded::Guarded;
 use baseline::{Checker, Mode, Workspace};
 use product::{Lent, Table};
@@ -9,20 +9,22 @@ use product::{Lent, Table};
 pub const MOST_RECORDS: usize = 4200;
 
 /// For connecting: number, sheet, state, offset, situations, plan states, rounds, length. For stepping: number, state.
-/// For the client check: number, sheet, state, offset, and 1 for yes. For converting: number, sheet, state, length. For
-/// the check of a plan: as for connecting; then, from FAULT on, condition, code, ready set, plan state, fourteen counts,
-/// old state, new state. For a row: number, sheet, state, offset; then, from PART on, the part's sheet, offset and length.
-/// The rest is 0.
+/// For the client check: number, sheet, state, offset, and 1 for yes. For converting: number, sheet, state, length; then,
+/// of a text, the byte at fault. For the check of a plan: as for connecting; then, from FAULT on, condition, code, ready
+/// set, plan state, fourteen counts, old state, new state. For a row: number, sheet, state, offset; then, from PART on, the
+/// part's sheet, offset and length. The rest is 0.
 pub type Figures = [u32; 28];
 
 /// The places of some figures: of the offset in a refusal of a sheet; of the counts and the length of connecting; of the
-/// client check's yes.
+/// client check's yes; of the length of a converted sheet, and of the byte at fault in a text.
 pub const OFFSET: usize = 3;
 pub const SITUATIONS: usize = 4;
 pub const STATES: usize = 5;
 pub const ROUNDS: usize = 6;
 pub const LENGTH: usize = 7;
 pub const YES: usize = 4;
+pub const SHEET_LENGTH: usize = 3;
+pub const TEXT_FAULT: usize = 4;
 
 /// Where the figures of a fault begin, and those of a part.
 pub const FAULT: usize = 8;
@@ -98,6 +100,16 @@ fn sheet_figures(number: u8, sheet: u8, state: u8, length: u16) -> Figures {
     padded([number.into(), sheet.into(), state.into(), length.into()])
 }
 
+/// The figures of converting a text, and of where it is at fault, of either side.
+macro_rules! text_figures {
+    ($answer:expr, $fault:expr) => {{
+        let answer = $answer;
+        let mut figures = sheet_figures(answer.number, answer.sheet, answer.state, answer.length);
+        figures[TEXT_FAULT] = $fault.into();
+        figures
+    }};
+}
+
 fn step_figures(number: u8, state: u16) -> Figures {
     padded([number.into(), state.into()])
 }
@@ -142,6 +154,11 @@ impl Target for Baseline {
                 self.lent.fill(*room);
                 let (number, length) = baseline::convert(choosing, self.lent.inside_mut());
                 (sheet_figures(number, 0, 0, length), Some(&self.lent))
+            }
+            Call::FromText(FromText { text, room, .. }) => {
+                self.lent.fill(*room);
+                let answer = baseline::from_text(text, self.lent.inside_mut());
+                (text_figures!(answer, baseline::text_fault(text)), Some(&self.lent))
             }
             Call::CheckPlan(CheckPlan { mode, old, new, plan, records, .. }) => {
                 let mode = Mode::named(*mode);
@@ -207,6 +224,17 @@ impl Product {
         (check_figures!(answer, fault), as_due)
     }
 
+    fn convert_text(&mut self, call: &FromText) -> (Figures, bool) {
+        let FromText { text, room, null } = call;
+        self.first.place(text);
+        self.lent.fill(*room);
+        let answer = product::from_text(self.first.inside(), self.lent.inside_mut(), *null);
+        let mut as_due = self.first.holds(text);
+        let fault = product::text_fault(self.first.inside(), *null);
+        as_due &= self.first.holds(text);
+        (text_figures!(answer, fault), as_due)
+    }
+
     fn row(&mut self, call: &Row) -> (Figures, bool) {
         let Row { first, second, sheet, state, null } = call;
         self.first.place(first);
@@ -252,6 +280,10 @@ impl Target for Product {
                 let answer = product::from_choosing(self.first.inside(), self.lent.inside_mut(), *null);
                 let figures = sheet_figures(answer.number, answer.sheet, answer.state, answer.length);
                 Outcome { figures, lent: Some(&self.lent), as_due: self.first.holds(choosing) }
+            }
+            Call::FromText(call) => {
+                let (figures, as_due) = self.convert_text(call);
+                Outcome { figures, lent: Some(&self.lent), as_due }
             }
             Call::CheckPlan(check) => {
                 let (figures, as_due) = self.check_plan(check);

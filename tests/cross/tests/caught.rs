@@ -1,15 +1,15 @@
 //! A wrong side is caught, the input made small and stored, and the stored input replayed. That the right sides
 //! agree is tried at a small share.
 
-use baseline::{Checker, Mode, Workspace};
+use baseline::{Checker, Mode, Workspace, LONGEST_SHEET};
 use cross::at_fault::{at_fault, Byte};
-use cross::call::{Call, CheckPlan, Complies, Connect, FromChoosing, Row, Step};
+use cross::call::{Call, CheckPlan, Complies, Connect, FromChoosing, FromText, Row, Step};
 use cross::chance::Chance;
 use cross::guarded::Guarded;
 use cross::parts::{Share, PARTS};
 use cross::runner::{Checked, Ended, Runner};
 use cross::target::{Baseline, Figures, Outcome, Product, Target};
-use cross::target::{FAULT, LENGTH, OFFSET, PART, SITUATIONS, STATES, YES};
+use cross::target::{FAULT, LENGTH, OFFSET, PART, SHEET_LENGTH, SITUATIONS, STATES, TEXT_FAULT, YES};
 use cross::untidy::out_of_order_first;
 use std::path::PathBuf;
 
@@ -33,8 +33,9 @@ impl Target for Wrong {
     }
 }
 
-fn run(runner: &mut Runner) -> Checked {
-    for (place, (_, part)) in PARTS.iter().enumerate() {
+/// Runs the parts whose names have this word, all if it is empty.
+fn run(runner: &mut Runner, word: &str) -> Checked {
+    for (place, (_, part)) in PARTS.iter().enumerate().filter(|(_, (name, _))| name.contains(word)) {
         part(runner, &mut Chance::new(place as u64), Share(1))?;
     }
     Ok(())
@@ -56,10 +57,15 @@ fn folder(name: &str) -> PathBuf {
 /// The small input that is stored for a fault. It is also the one that replaying finds, and the right side has no
 /// fault there.
 fn caught(name: &str, fault: Fault) -> Call {
+    caught_by("", name, fault)
+}
+
+/// The same, by the parts whose names have this word.
+fn caught_by(word: &str, name: &str, fault: Fault) -> Call {
     let folder = folder(name);
     let mut wrong = Wrong { right: Baseline::new(), lent: Guarded::default(), fault };
     let mut baseline = Baseline::new();
-    let path = differs_in(run(&mut Runner::new(&mut baseline, &mut wrong, &folder)));
+    let path = differs_in(run(&mut Runner::new(&mut baseline, &mut wrong, &folder), word));
     let replayed = Runner::new(&mut baseline, &mut wrong, &folder).replay();
     assert_eq!(differs_in(replayed.map(|_| ())), path);
     let mut product = Product::new();
@@ -570,10 +576,216 @@ fn a_state_looked_for_before_the_sheet_is_tested() {
     assert_eq!((named, other), (vec![], vec![]));
 }
 
+/// The text that is left for a fault, and how much is lent.
+fn typed(call: Call) -> (Vec<u8>, usize) {
+    match call {
+        Call::FromText(FromText { text, room, null: false }) => (text, room),
+        other => panic!("not small: {other:?}"),
+    }
+}
+
+/// What the baseline answers to a text, with as much lent as any sheet needs.
+fn number_of(text: &[u8]) -> u8 {
+    baseline::from_text(text, &mut [0; LONGEST_SHEET]).number
+}
+
+#[test]
+fn a_text_measured_without_its_blanks() {
+    let call = caught_by("texts", "measured", |call, figures, _, _| match call {
+        Call::FromText(FromText { text, .. }) if figures[0] == 1 => {
+            let solid: Vec<u8> = text.iter().copied().filter(|byte| *byte != b' ').collect();
+            if number_of(&solid) == 22 {
+                (figures[0], figures[1], figures[TEXT_FAULT]) = (22, 0, text.len() as u32);
+            }
+        }
+        _ => {}
+    });
+    let (text, room) = typed(call);
+    assert_eq!((text.len(), room), (257, 0));
+}
+
+#[test]
+fn a_long_text_that_no_sheet_is_named_for() {
+    let call = caught_by("texts", "unnamed", |call, figures, _, _| {
+        if matches!(call, Call::FromText(_)) && figures[0] == 1 {
+            figures[1] = 0;
+        }
+    });
+    assert_eq!(typed(call), (vec![0; 257], 0));
+}
+
+#[test]
+fn a_length_counted_in_eight_bits() {
+    let call = caught_by("texts", "eight", |call, figures, _, _| match call {
+        Call::FromText(FromText { text, .. }) if text.len() > 0xFF => {
+            let short = &text[..text.len() & 0xFF];
+            (figures[0], figures[1]) = (number_of(short).into(), 0);
+        }
+        _ => {}
+    });
+    let (text, room) = typed(call);
+    assert_eq!((text.len(), room), (256, 0));
+}
+
+#[test]
+fn a_byte_at_fault_counted_without_blanks() {
+    let call = caught_by("texts", "blanks", |call, figures, _, _| {
+        if let Call::FromText(FromText { text, .. }) = call {
+            let before = &text[..figures[TEXT_FAULT] as usize];
+            figures[TEXT_FAULT] = before.iter().filter(|byte| **byte != b' ').count() as u32;
+        }
+    });
+    assert_eq!(typed(call), (vec![b' '], 0));
+}
+
+#[test]
+fn an_end_that_comes_too_early_one_byte_before() {
+    let call = caught_by("texts", "early", |call, figures, _, _| match call {
+        Call::FromText(FromText { text, .. }) if figures[0] == 22 && figures[TEXT_FAULT] as usize == text.len() => {
+            figures[TEXT_FAULT] = figures[TEXT_FAULT].saturating_sub(1);
+        }
+        _ => {}
+    });
+    assert_eq!(typed(call).0.len(), 1);
+}
+
+#[test]
+fn the_last_variable_instead_of_the_first() {
+    let call = caught_by("texts", "last", |call, figures, _, _| match call {
+        Call::FromText(FromText { text, .. }) if figures[0] == 23 => {
+            let last = text.iter().rposition(|byte| b"XYZ".contains(byte));
+            figures[TEXT_FAULT] = last.unwrap_or(0) as u32;
+        }
+        _ => {}
+    });
+    // Two variables, of which the first is at fault, and a mark between them.
+    let (text, room) = typed(call);
+    assert_eq!((text.len(), room), (3, 0), "{text:?}");
+}
+
+#[test]
+fn a_variable_judged_before_the_grammar() {
+    let call = caught_by("texts", "judged", |call, figures, _, _| match call {
+        Call::FromText(FromText { text, .. }) if figures[0] == 22 => {
+            let begun = &text[..figures[TEXT_FAULT] as usize];
+            if number_of(begun) == 23 {
+                (figures[0], figures[TEXT_FAULT]) = (23, baseline::text_fault(begun).into());
+            }
+        }
+        _ => {}
+    });
+    // A variable, and a byte that cannot stand there.
+    let (text, room) = typed(call);
+    assert_eq!((text.len(), room), (2, 0), "{text:?}");
+}
+
+/// The inner rec of a name binds nothing: what it should bind is the outer one's, and under a prefix there.
+#[test]
+fn a_variable_that_belongs_to_the_outer_rec() {
+    let call = caught_by("texts", "outer", |call, figures, _, _| match call {
+        Call::FromText(FromText { text, .. }) if figures[0] == 23 => {
+            let mut recs = (0..text.len()).filter(|at| text[*at..].starts_with(b"rec"));
+            if recs.any(|at| matches!(text[at..], [_, _, _, _, b'.', ..]) && number_of(&text_without(text, at, 5)) == 0)
+            {
+                (figures[0], figures[TEXT_FAULT]) = (13, 0);
+            }
+        }
+        _ => {}
+    });
+    // As recX.a.recX.X.
+    let (text, room) = typed(call);
+    assert_eq!((text.len(), room), (13, 0), "{}", String::from_utf8_lossy(&text));
+}
+
+fn text_without(text: &[u8], at: usize, size: usize) -> Vec<u8> {
+    [&text[..at], &text[at + size..]].concat()
+}
+
+/// Twenty judged on a part, as by a family that is cut at eight ready sets.
+#[test]
+fn a_part_with_too_many_ready_sets() {
+    let call = caught_by("texts", "part", |call, figures, sheet, _| match call {
+        Call::FromText(FromText { text, .. }) if figures[0] == 0 => {
+            let mut marks = (0..text.len()).filter(|at| text[*at] == b'+');
+            if marks.any(|at| number_of(&text[..at]) == 20) {
+                *figures = Figures::default();
+                figures[0] = 20;
+                sheet.fill(sheet.inside().len());
+            }
+        }
+        _ => {}
+    });
+    // A sum of choices with more than eight ready sets and of what makes them fewer.
+    let (text, _) = typed(call);
+    assert!(text.len() < 60 && number_of(&text) == 0, "{}", String::from_utf8_lossy(&text));
+}
+
+#[test]
+fn a_sheet_of_a_text_with_fewer_names() {
+    let call = caught_by("texts", "names", |call, figures, sheet, _| {
+        let length = figures[SHEET_LENGTH] as usize;
+        if matches!(call, Call::FromText(_)) && figures[0] == 0 {
+            sheet.inside_mut()[length - 3] = 1;
+        }
+    });
+    assert_eq!(typed(call), (b"0".to_vec(), 11));
+}
+
+#[test]
+fn a_byte_behind_the_sheet_of_a_text() {
+    let call = caught_by("texts", "behind-text", |call, figures, sheet, _| {
+        let length = figures[SHEET_LENGTH] as usize;
+        if matches!(call, Call::FromText(_)) && figures[0] == 0 && length < sheet.inside().len() {
+            sheet.inside_mut()[length] ^= 1;
+        }
+    });
+    assert_eq!(typed(call), (b"0".to_vec(), 12));
+}
+
+#[test]
+fn a_byte_written_though_the_sheet_of_a_text_is_too_long() {
+    let call = caught_by("texts", "text-room", |call, figures, sheet, _| {
+        if matches!(call, Call::FromText(_)) && figures[0] == 13 {
+            sheet.inside_mut().iter_mut().take(1).for_each(|byte| *byte ^= 1);
+        }
+    });
+    assert_eq!(typed(call), (b"0".to_vec(), 1));
+}
+
+#[test]
+fn a_byte_written_before_a_text_has_too_many_states() {
+    let call = caught_by("texts", "text-states", |call, figures, sheet, _| {
+        if matches!(call, Call::FromText(_)) && figures[0] == 19 {
+            sheet.inside_mut().iter_mut().take(1).for_each(|byte| *byte ^= 1);
+        }
+    });
+    let (text, room) = typed(call);
+    assert!(text.len() < 160 && room == 1, "{}, {room}", String::from_utf8_lossy(&text));
+}
+
+#[test]
+fn a_byte_at_fault_beside_too_many_ready_sets() {
+    let call = caught_by("texts", "beside", |call, figures, _, _| {
+        if matches!(call, Call::FromText(_)) && figures[0] == 20 {
+            figures[TEXT_FAULT] = 1;
+        }
+    });
+    let (text, room) = typed(call);
+    assert!(text.len() < 60 && room == 0, "{}, {room}", String::from_utf8_lossy(&text));
+}
+
+#[test]
+fn a_text_that_is_written_to() {
+    let call = caught_by("texts", "written", |call, figures, _, as_due| {
+        *as_due = !(matches!(call, Call::FromText(_)) && figures[0] == 23);
+    });
+    assert_eq!(typed(call), (b"X".to_vec(), 0));
+}
+
 #[test]
 fn the_right_sides_agree_and_every_outcome_is_met() {
     let (mut baseline, mut product, folder) = (Baseline::new(), Product::new(), folder("agree"));
     let mut runner = Runner::new(&mut baseline, &mut product, &folder);
-    run(&mut runner).expect("no difference");
+    run(&mut runner, "").expect("no difference");
     assert_eq!(runner.tally.missing(), Vec::<String>::new());
 }

@@ -1,7 +1,7 @@
 //! include/adapter.h says what tests/product declares, which the comparison holds to the library: the layout of what
 //! is lent and answered, and the documents' numbers. It needs a C compiler, as linking this test does.
 
-use baseline::{LONGEST_PLAN, LONGEST_SHEET, MOST_SITUATIONS};
+use baseline::{LONGEST_PLAN, LONGEST_SHEET, LONGEST_TEXT, MOST_SITUATIONS};
 use product::{Answer, Compliance, Fault, Part, Record, RowAnswer, SheetAnswer, Stepped};
 use std::mem::{align_of, offset_of, size_of};
 use std::path::{Path, PathBuf};
@@ -10,14 +10,14 @@ use std::process::Command;
 const HERE: &str = env!("CARGO_MANIFEST_DIR");
 
 /// The header's, which rises with every change of it.
-const VERSION: u32 = 6;
+const VERSION: u32 = 7;
 
 /// The words for the numbers, document 01's for 0 to 16.
 #[rustfmt::skip]
-const WORDS: [&str; 22] = [
+const WORDS: [&str; 24] = [
     "ACCEPTED", "LENGTH", "TRAILER", "INDEX", "ROW", "READY", "ACTION", "SUCCESSOR", "ROLE", "NAMES", "RANK",
     "CAPACITY", "NO_ADAPTER", "ROOM", "PLAN", "STATE", "MOVE", "CHOOSING", "CIRCLE", "STATES", "READY_SETS",
-    "UNSOUND",
+    "UNSOUND", "GRAMMAR", "VARIABLE",
 ];
 
 /// The words for the modes.
@@ -40,7 +40,7 @@ macro_rules! laid_out {
 
 fn declared() -> String {
     let mut lines = format!("HEADER_VERSION {VERSION}\nLONGEST_SHEET {LONGEST_SHEET}\n");
-    lines += &format!("MOST_SITUATIONS {MOST_SITUATIONS}\nLONGEST_PLAN {LONGEST_PLAN}\n");
+    lines += &format!("LONGEST_TEXT {LONGEST_TEXT}\nMOST_SITUATIONS {MOST_SITUATIONS}\nLONGEST_PLAN {LONGEST_PLAN}\n");
     for (number, word) in WORDS.iter().enumerate().chain(MODES.iter().enumerate()) {
         lines += &format!("{word} {number}\n");
     }

@@ -36,7 +36,7 @@ pub struct Compliance {
     pub yes: u8,
 }
 
-/// What converting a choosing sheet answers.
+/// What converting a choosing sheet answers, and a text.
 #[repr(C)]
 #[derive(Clone, Copy, Debug, PartialEq, Eq)]
 pub struct SheetAnswer {
@@ -107,6 +107,13 @@ extern "C" {
         choosing: *const u8, choosing_length: usize,
         sheet: *mut u8, sheet_length: usize,
     ) -> SheetAnswer;
+
+    pub fn adapter_from_text(
+        text: *const u8, text_length: usize,
+        sheet: *mut u8, sheet_length: usize,
+    ) -> SheetAnswer;
+
+    pub fn adapter_text_fault(text: *const u8, text_length: usize) -> u16;
 
     pub fn adapter_check_plan(
         mode: u8,
