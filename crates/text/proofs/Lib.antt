@@ -16,6 +16,7 @@ pub mod Derived
 pub mod Links
 pub mod Recs
 pub mod Explained
+pub mod Ends
 pub mod Words
 pub mod Cases
 pub mod Read
