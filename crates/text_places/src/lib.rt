@@ -72,6 +72,26 @@ fn fill_place(
     text_steps::put_prefixes(cells, bodies, p as u16, &mut prefixes[4 * p..4 * p + 4]);
 }
 
+// The same if a set has the place.
+fn fill_if(
+    cells: &[u32],
+    bodies: &[u16],
+    wanted: &[u64],
+    p: usize,
+    sizes: &mut [u8],
+    masks: &mut [u16],
+    prefixes: &mut [u64],
+)
+    requires { ⌜ Known (now cells) (now bodies) × (p < length (now cells)) × (length (now wanted) ≡ 4)
+        × Filling (now cells) (now bodies) (now wanted) p (now sizes) (now masks) (now prefixes) ⌝ }
+    ensures { λ _. ⌜ Filling (now (cells .entry)) (now (bodies .entry)) (now (wanted .entry)) (p + 1)
+        (now (sizes .exit)) (now (masks .exit)) (now (prefixes .exit)) ⌝ }
+{
+    if place_sets::has_place(wanted, p as u8) {
+        fill_place(cells, bodies, p, sizes, masks, prefixes);
+    }
+}
+
 // The same for every place of a set.
 fn fill_wanted(
     cells: &[u32],
@@ -88,9 +108,7 @@ fn fill_wanted(
 {
     let mut p: usize = 0;
     while p < cells.len() {
-        if place_sets::has_place(wanted, p as u8) {
-            fill_place(cells, bodies, p, sizes, masks, prefixes);
-        }
+        fill_if(cells, bodies, wanted, p, sizes, masks, prefixes);
         p = p + 1;
     }
 }
