@@ -14,13 +14,13 @@ use borrow.Rule.Slice.PartMut.{putMid, midOf}
 use Rattle.model.specs.Contract.{has}
 use Rattle.little_endian.specs.Front.{front}
 use Rattle.nodes.specs.Sets.{sorted}
-use Rattle.place_sets.specs.PlaceSets.{numberOf, setAt}
+use Rattle.place_sets.specs.PlaceSets.{numberOf}
 use Rattle.text.specs.Places.{Sense, senseAt}
 use Rattle.text.specs.Cells.{Explained}
-use Rattle.text.specs.Steps.{PrefixesOf, stepOf}
+use Rattle.text.specs.Steps.{PrefixesOf}
 use Rattle.text.specs.Tables.{IsWanted, PlaceTables}
-use Rattle.text_places.specs.Wanted.{Known, Wanting}
-use Rattle.text_places.specs.Filled.{Rooms, Left, Kept, FilledPlace, Filling}
+use Rattle.text_places.specs.Wanted.{Wanting}
+use Rattle.text_places.specs.Filled.{Rooms, Kept, FilledPlace, Filling}
 use Rattle.text_places.proofs.Parts.{put-below, masks-here, set-here, set-below, set-above, sets-empty}
 
 module _ (cells bodies : List ℕ) where

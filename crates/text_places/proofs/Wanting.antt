@@ -1,6 +1,6 @@
 -- The places that can be in a state, put to a set one by one: the first, and each that stands directly behind a prefix.
 -- Assumes nothing.
-use mathlib.Core.Path.{_≡_, refl, sym, subst, subst⁻¹, _∙_}
+use mathlib.Core.Path.{_≡_, refl, subst, subst⁻¹}
 use mathlib.Core.Bool.{Bool, true, false}
 use mathlib.Core.Logic.{⊎-elim}
 use mathlib.Core.List.{List, []}
@@ -16,8 +16,9 @@ use Rattle.model.proofs.Bits.{has-or-left, has-or-right, has-or-cases}
 use Rattle.model.proofs.Masks.{has-power, power-has}
 use Rattle.nodes.proofs.Sets.{not-in-none}
 use Rattle.place_sets.specs.PlaceSets.{numberOf}
-use Rattle.text.specs.Cells.{Ends, at-end, at-prefix, at-choice, at-variable, cellAt, unpacked, placeOf}
-use Rattle.text.specs.Steps.{IsPrefix, stepOf}
+use Rattle.text.specs.Places.{Sense}
+use Rattle.text.specs.Cells.{Ends, at-end, at-prefix, at-choice, at-variable, Explained, cellAt, unpacked, placeOf}
+use Rattle.text.specs.Steps.{stepOf}
 use Rattle.text.proofs.Ends.{body-ends}
 use Rattle.text_places.specs.Wanted.{Known, Wanting}
 
@@ -32,6 +33,11 @@ unfolding placeOf
 place-body cells bodies link h = rw (le-ltb link 256 h) refl
 
 module _ (cells bodies : List ℕ) where
+  -- the cells of some term, one of which is told
+  pub known-of : (first : ℕ) → ((senses : List Sense) × Explained cells bodies senses) → first < length cells → length bodies ≤ 64
+      → Known cells bodies
+  known-of first (senses, x) low recs = record { senses = senses; explained = x; some = omega arith; recs = recs }
+
   -- a link to a body, and the place of that
   pub link-leads : {b link : ℕ} → Ends cells bodies b link → 256 ≤ link
       → (link < 256 + length bodies) × (getD bodies (link - 256) 0 < 256)

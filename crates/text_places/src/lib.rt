@@ -4,8 +4,6 @@ ghost use mathlib.Core.Path.{_≡_};
 ghost use mathlib.Core.List.{List, []};
 ghost use Prim.Native.Nat.{ℕ, _+_, _-_, _≤_, _<_};
 ghost use lib.ListN.{length, getD};
-ghost use lib.Dec.{T};
-ghost use Rattle.model.specs.Contract.{has};
 ghost use Rattle.place_sets.specs.PlaceSets.{numberOf, setAt};
 ghost use Rattle.text.specs.Places.{Sense};
 ghost use Rattle.text.specs.Cells.{placeOf, Explained};
@@ -23,7 +21,11 @@ pub fn place_of(bodies: &[u16], link: u16) -> u8
     requires { ⌜ (256 ≤ link → (link < 256 + length (now bodies)) × (getD (now bodies) (link - 256) 0 < 256)) ⌝ }
     ensures { λ r. ⌜ r ≡ placeOf [] (now (bodies .entry)) link ⌝ }
 {
-    if link < PLACES { link as u8 } else { bodies[(link - PLACES) as usize] as u8 }
+    if link < PLACES {
+        link as u8
+    } else {
+        bodies[(link - PLACES) as usize] as u8
+    }
 }
 
 // The place directly behind a prefix put to the wanted ones. A choice leads to none.
