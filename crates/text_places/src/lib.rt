@@ -67,8 +67,8 @@ fn fill_place(
 )
     requires { ⌜ Known (now cells) (now bodies) × (p < length (now cells)) × Rooms (now sizes) (now masks) (now prefixes)
         × (setAt (now prefixes) p ≡ 0) ⌝ }
-    ensures { λ _. ⌜ FilledPlace (now (cells .entry)) (now (bodies .entry)) p (now (sizes .entry)) (now (masks .entry)) (now (prefixes .entry))
-        (now (sizes .exit)) (now (masks .exit)) (now (prefixes .exit)) ⌝ }
+    ensures { λ _. ⌜ FilledPlace (now (cells .entry)) (now (bodies .entry)) p (now (sizes .entry)) (now (masks .entry))
+        (now (prefixes .entry)) (now (sizes .exit)) (now (masks .exit)) (now (prefixes .exit)) ⌝ }
 {
     sizes[p] = text_ready::put_ready(cells, bodies, p as u16, &mut masks[8 * p..]);
     text_steps::put_prefixes(cells, bodies, p as u16, &mut prefixes[4 * p..4 * p + 4]);
@@ -127,7 +127,8 @@ pub fn fill_places(
     requires { ⌜ ((senses : List Sense) × Explained (now cells) (now bodies) senses) × (first < length (now cells))
         × (length (now bodies) ≤ 64) × (length (now sizes) ≡ 256) × (length (now masks) ≡ 2048) × (length (now prefixes) ≡ 1024)
         × ((i : ℕ) → getD (now prefixes) i 0 ≡ 0) ⌝ }
-    ensures { λ _. ⌜ PlaceTables (now (cells .entry)) (now (bodies .entry)) first (now (sizes .exit)) (now (masks .exit)) (now (prefixes .exit)) ⌝ }
+    ensures { λ _. ⌜ PlaceTables (now (cells .entry)) (now (bodies .entry)) first (now (sizes .exit)) (now (masks .exit))
+        (now (prefixes .exit)) ⌝ }
 {
     let mut wanted = [0u64; 4];
     want(cells, bodies, first, &mut wanted);

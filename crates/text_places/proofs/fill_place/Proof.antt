@@ -31,8 +31,13 @@ put-ready-requires : tie.Need-put-ready-requires
 put-ready-requires c κs =
     let s = c .before .before .before .before .before .before in
     let known = s .pre .0 in
-    let few = known .explained .few in
-    (known .recs, few, simp (length-take, length-drop) (omega (arith, s .pre .2 .masks-room)), omega arith, known .explained .ends (s .args .p) (s .pre .1))
+    let few = known .explained .few in (
+      known .recs,
+      few,
+      simp (length-take, length-drop) (omega (arith, s .pre .2 .masks-room)),
+      omega arith,
+      known .explained .ends (s .args .p) (s .pre .1),
+    )
 
 slice-write-sizes : tie.Need-slice-write-sizes
 slice-write-sizes c = search needs

@@ -1,5 +1,5 @@
--- `text_places::fill_places` meets its contract: the set has every place that can be in a state, and what is kept of each place of it stands
--- in the tables.
+-- `text_places::fill_places` meets its contract: the set has every place that can be in a state, and what is kept of each
+-- place of it stands in the tables.
 -- Assumes nothing.
 use mathlib.Core.Path.{refl}
 use borrow.Author.Needs.{needs}

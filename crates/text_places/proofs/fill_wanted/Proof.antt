@@ -32,13 +32,19 @@ loop-again : tie.Need-loop-again Inv-loop μ-loop
 loop-again c = (omega arith, c .before .before .before .before .before .before .fill-if .ensures)
 
 same-length : tie.Need-same-length Inv-loop μ-loop
-same-length c = c .before .loop .inv .1 .rooms .sizes-room ∙ sym (c .before .before .before .before .before .before .before .before .pre .2 .rooms .sizes-room)
+same-length c =
+    c .before .loop .inv .1 .rooms .sizes-room
+    ∙ sym (c .before .before .before .before .before .before .before .before .pre .2 .rooms .sizes-room)
 
 same-length-2 : tie.Need-same-length-2 Inv-loop μ-loop
-same-length-2 c = c .before .loop .inv .1 .rooms .masks-room ∙ sym (c .before .before .before .before .before .before .before .before .pre .2 .rooms .masks-room)
+same-length-2 c =
+    c .before .loop .inv .1 .rooms .masks-room
+    ∙ sym (c .before .before .before .before .before .before .before .before .pre .2 .rooms .masks-room)
 
 same-length-3 : tie.Need-same-length-3 Inv-loop μ-loop
-same-length-3 c = c .before .loop .inv .1 .rooms .prefixes-room ∙ sym (c .before .before .before .before .before .before .before .before .pre .2 .rooms .prefixes-room)
+same-length-3 c =
+    c .before .loop .inv .1 .rooms .prefixes-room
+    ∙ sym (c .before .before .before .before .before .before .before .before .pre .2 .rooms .prefixes-room)
 
 returns : tie.Need-returns Inv-loop μ-loop
 returns c =
