@@ -6,3 +6,5 @@ pub mod Bounds
 pub mod Parts
 pub mod Outcome
 pub mod Leaves
+pub mod Chains
+pub mod Returns

@@ -143,11 +143,13 @@ module _ {text : List ℕ} {from : Read} {scope : Scope} {cells bodies : List �
   -- ---- actions
 
   module _ (at j : ℕ) (behind : at ≡ from .at + actionWidth j) (small : at ≤ length text) where
+    pub bare-room : from .places < 256
+    bare-room = omega (arith, action-width j, ready .few-places, ready .short)
+
     pub part-bare : {to : Read} {cells′ : List ℕ} → CellPut cells (onward from at 0) j 0 0 to cells′
         → PartRead text from scope cells bodies (bare j) (drop at text) to cells′ bodies
     unfolding onward celled widthOf termOf linkTo sizeOf recsOf cellsIn bodiesIn wrongAt orNone
     part-bare put =
-        let some-byte = action-width j in
         put-part put (
           record {
             is-ok = refl;
@@ -157,7 +159,7 @@ module _ {text : List ℕ} {from : Read} {scope : Scope} {cells bodies : List �
             link-is = omega arith;
             places-are = omega arith;
             recs-are = omega arith;
-            cells-are = cell-more cells (from .places) _ (omega (arith, ready .few-places, ready .short)) (ready .cells-room);
+            cells-are = cell-more cells (from .places) _ bare-room (ready .cells-room);
             bodies-are = sym (append-nil _);
             wrong-is = first-none (from .wrong);
             cells-room = length-set cells _ _ ∙ ready .cells-room;
