@@ -8,3 +8,5 @@ pub mod Outcome
 pub mod Leaves
 pub mod Chains
 pub mod Returns
+pub mod Stripping
+pub mod Whole

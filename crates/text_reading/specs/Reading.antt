@@ -11,8 +11,8 @@ use Rattle.model.specs.Lists.{any, keep}
 use Rattle.model.specs.Contract.{has}
 use Rattle.text.specs.Grammar.{Tree, bound}
 use Rattle.text.specs.Terms.{termOf}
-use Rattle.text.specs.Parser.{Parse, failed, parsed, andThen, expects, leaf, looped}
-use Rattle.text.specs.Convert.{widthOf, wrongAt}
+use Rattle.text.specs.Parser.{Parse, failed, parsed, andThen, expects, leaf, looped, parseOf}
+use Rattle.text.specs.Convert.{widthOf, wrongAt, mostDeep}
 use Rattle.text.specs.Cells.{packed, recsOf, linkTo, cellsIn, bodiesIn, noOwners, bodyLinks}
 use Rattle.text.specs.Places.{sizeOf}
 use Rattle.text_reading.specs.declared.Read.{Read}
@@ -117,3 +117,21 @@ pub data ReadAs (text : List ℕ) (from : Read) (scope : Scope) (cells bodies : 
 pub record LeafRead (text : List ℕ) (from : Read) (scope : Scope) (to : Read) : Type 0 where
   pub leaves : (cells bodies : List ℕ) → Ready text from scope cells bodies
       → ReadAs text from scope cells bodies (leaf (drop (from .at) text)) to cells bodies
+
+-- ---- a whole text
+
+-- All of a text was read: its cells behind the one of the end, and the bodies of its recs.
+pub record WholeRead (cells : List ℕ) (t : Tree) (r : List ℕ) (to : Read) (cells′ bodies′ : List ℕ) : Type 0 where
+  pub is-ok : to .ok ≡ true
+  pub nothing-left : r ≡ []
+  pub link-is : to .link ≡ linkTo noOwners 0 0 (termOf t)
+  pub places-are : to .places ≡ sizeOf (termOf t)
+  pub recs-are : to .recs ≡ recsOf (termOf t)
+  pub cells-are : take (1 + to .places) cells′ ≡ getD cells 0 0 ∷ map packed (cellsIn noOwners 0 0 (termOf t))
+  pub bodies-are : take (to .recs) bodies′ ≡ bodyLinks (termOf t)
+  pub wrong-is : to .wrong ≡ orNone (wrongAt [] [] 0 t)
+
+-- What is left for a text: the byte at which no derivation can go on, or all of it.
+pub record TextRead (text cells : List ℕ) (to : Read) (cells′ bodies′ : List ℕ) : Type 0 where
+  pub unread : (r : List ℕ) → parseOf mostDeep text ≡ failed r → (to .ok ≡ false) × (to .at ≡ length text - length r)
+  pub read : (t : Tree) (r : List ℕ) → parseOf mostDeep text ≡ parsed t r → WholeRead cells t r to cells′ bodies′

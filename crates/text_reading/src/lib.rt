@@ -2,15 +2,15 @@
 // of (+) is a loop. Request 7/13.
 ghost use mathlib.Core.Path.{_≡_};
 ghost use mathlib.Core.Bool.{true, false, _&&_};
-ghost use mathlib.Core.List.{[], _∷_};
+ghost use mathlib.Core.List.{[], _∷_, _++_};
 ghost use Prim.Native.Nat.{_+_, _-_, _*_, _≤_, _<_};
-ghost use lib.ListN.{length, getD, drop};
+ghost use lib.ListN.{length, getD, take, drop};
 ghost use lib.Dec.{leb};
 ghost use Rattle.text.specs.Grammar.{variable};
 ghost use Rattle.text.specs.Parser.{tightAt, sumsOf, wholeOf, acted, bracketed, looped, expects};
-ghost use Rattle.text.specs.Convert.{wrongAt, actionWidth};
+ghost use Rattle.text.specs.Convert.{wrongAt, actionWidth, dropped, placeOfByte};
 ghost use Rattle.text_reading.specs.Reading.{listed, orNone, firstOf, onward, withRec, prefixedScope};
-ghost use Rattle.text_reading.specs.Reading.{InRec, CellPut, RecHead, Ready, ReadAs, LeafRead};
+ghost use Rattle.text_reading.specs.Reading.{InRec, CellPut, RecHead, Ready, ReadAs, LeafRead, TextRead};
 
 // Where reading stands: whether it can go on; the byte; what leads to the part that was read; how many places and recs were found; and the
 // first variable at fault, 256 if there is none.
@@ -321,6 +321,80 @@ fn read_whole(text: &[u8], from: Read, depth: usize, scope: Scope, cells: &mut [
             return next;
         }
         part = put_cell(cells, next, 15, part.link, next.link);
+    }
+    part
+}
+
+// A byte put behind the others unless it is a blank, and how many there are then.
+fn keep_byte(out: &mut [u8], count: usize, b: u8) -> usize
+    requires { ⌜ count < length (now out) ⌝ }
+    ensures { λ r. ⌜ (take r (now (out .exit)) ≡ take count (now (out .entry)) ++ dropped (b ∷ [])) × (r ≡ count + length (dropped (b ∷ []))) ⌝ }
+{
+    if b == 32 {
+        return count;
+    }
+    out[count] = b;
+    count + 1
+}
+
+// The text without its blanks, and how many bytes that has.
+pub fn strip(text: &[u8], out: &mut [u8]) -> usize
+    requires { ⌜ (length (now text) ≤ 256) × (length (now out) ≡ 256) ⌝ }
+    ensures { λ r. ⌜ (take r (now (out .exit)) ≡ dropped (now (text .entry))) × (r ≡ length (dropped (now (text .entry)))) ⌝ }
+{
+    let mut count = 0;
+    let mut i = 0;
+    while i < text.len() {
+        count = keep_byte(out, count, text[i]);
+        i = i + 1;
+    }
+    count
+}
+
+// Where the byte with a number among those that are no blanks stands; the length if there is none.
+pub fn place_of_byte(text: &[u8], i: usize) -> usize
+    ensures { λ r. ⌜ r ≡ placeOfByte (now (text .entry)) i ⌝ }
+{
+    let mut left = i;
+    let mut at = 0;
+    while at < text.len() {
+        if text[at] == 32 {
+            at = at + 1;
+            continue;
+        }
+        if left == 0 {
+            return at;
+        }
+        left = left - 1;
+        at = at + 1;
+    }
+    at
+}
+
+// A text without blanks, read into cells and bodies of recs, at most 16 deep.
+pub fn read_text(text: &[u8], cells: &mut [u32], bodies: &mut [u16]) -> Read
+    requires { ⌜ (length (now text) ≤ 256) × (length (now cells) ≡ 257) × (length (now bodies) ≡ 64) ⌝ }
+    ensures { λ r. ⌜ TextRead (now (text .entry)) (now (cells .entry)) r (now (cells .exit)) (now (bodies .exit)) ⌝ }
+{
+    let from = Read {
+        ok: true,
+        at: 0,
+        link: 0,
+        places: 0,
+        recs: 0,
+        wrong: 256,
+    };
+    let scope = Scope {
+        recs: 0,
+        prefixed: 0,
+        owners: [0, 0, 0],
+    };
+    let part = read_whole(text, from, 16, scope, cells, bodies);
+    if !part.ok {
+        return part;
+    }
+    if part.at < text.len() {
+        return stopped(part.at);
     }
     part
 }
