@@ -1,9 +1,9 @@
 -- A tree's text has a byte at least for each place of its term, and five for each rec; and the variable at fault is one of its bytes.
 -- Assumes nothing.
-use mathlib.Core.Path.{_≡_, refl}
+use mathlib.Core.Path.{_≡_}
 use mathlib.Core.Bool.{Bool, true, false, not, cond}
 use mathlib.Core.List.{List, _∷_}
-use mathlib.Core.Option.{Option, none, some, Option·none-ne-some, Option·some-injective}
+use mathlib.Core.Option.{none, some, Option·none-ne-some, Option·some-injective}
 use mathlib.Core.Logic.{⊎-elim}
 use Prim.Native.Nat.{ℕ, suc, _+_, _*_, _≤_, _<_}
 use native.Mathlib.Omega.{arith}
@@ -13,7 +13,7 @@ use Rattle.text.specs.Grammar.{Tree, nought, bare, dotted, summed, chosen, boun
 use Rattle.text.specs.Terms.{termOf}
 use Rattle.text.specs.Places.{sizeOf}
 use Rattle.text.specs.Cells.{recsOf}
-use Rattle.text.specs.Convert.{actionWidth, widthOf, wrongAt, orElse}
+use Rattle.text.specs.Convert.{actionWidth, widthOf, wrongAt}
 use Rattle.text.proofs.Variables.{one-of}
 
 pub action-width : (j : ℕ) → 1 ≤ actionWidth j

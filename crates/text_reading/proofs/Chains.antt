@@ -1,22 +1,19 @@
 -- Chains of + and of (+): what was read so far, and what the definition gives from there on.
 -- Assumes nothing.
-use mathlib.Core.Path.{_≡_, refl, sym, ap, _∙_}
+use mathlib.Core.Path.{_≡_, refl, ap, _∙_}
 use mathlib.Core.Option.{none, some}
 use mathlib.Core.List.{List, [], _∷_}
 use Prim.Native.Nat.{ℕ, zero, suc, _+_, _-_, _≤_, _<_}
 use native.Mathlib.Omega.{arith}
 use lib.ListN.{length, getD, drop}
-use Rattle.text.specs.Grammar.{Tree, summed, chosen}
-use Rattle.text.specs.Parser.{Parse, failed, parsed, andThen, choose, after, expects, chain, sumsOf, wholeOf}
-use Rattle.text.specs.Convert.{widthOf}
+use Rattle.text.specs.Grammar.{Tree}
+use Rattle.text.specs.Parser.{Parse, failed, parsed, andThen, choose, after, expects, chain}
 use Rattle.text_reading.specs.declared.Read.{Read}
 use Rattle.text_reading.specs.declared.Scope.{Scope}
-use Rattle.text_reading.specs.Reading.{onward, celled, CellPut, Ready, Stopped, PartRead, ReadAs, fails, reads}
-use Rattle.text_reading.proofs.Bounds.{few-in}
+use Rattle.text_reading.specs.Reading.{onward, CellPut, Ready, Stopped, PartRead, ReadAs, fails, reads}
 use Rattle.text_reading.proofs.Bytes.{here, after-is, after-not}
 use Rattle.text_reading.proofs.Steps.{then-fails, then-goes}
 use Rattle.text_reading.proofs.Parts.{Choice, part-joined, joined-room, ready-on}
-use Rattle.text_reading.proofs.Outcome.{stopped-at, failing, reading}
 
 -- A part was read that can go on: the definition gives what the rest of the chain gives behind it, with enough items left for all bytes.
 pub record Chained (first : ℕ) (more : List ℕ) (item : List ℕ → Parse) (join : Tree → Tree → Tree) (text : List ℕ) (from : Read)

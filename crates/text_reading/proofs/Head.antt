@@ -1,14 +1,13 @@
 -- The four bytes behind the r of a rec.
 -- Assumes nothing.
-use mathlib.Core.Path.{_≡_, refl, ap, _∙_}
+use mathlib.Core.Path.{_≡_, refl, ap}
 use mathlib.Core.Bool.{true, false, _&&_}
-use mathlib.Core.List.{List, [], _∷_}
+use mathlib.Core.List.{List}
 use Prim.Native.Nat.{ℕ, _+_, _-_, _≤_, _<_}
 use native.Mathlib.Omega.{arith}
 use lib.ListN.{length, getD, drop}
 use lib.Dec.{leb}
-use Rattle.text.specs.Grammar.{Tree, bound}
-use Rattle.text.specs.Parser.{Parse, failed, parsed, andThen, choose, oneOf, after, expects, looped}
+use Rattle.text.specs.Parser.{failed, choose, expects, looped}
 use Rattle.text_reading.specs.Reading.{RecHead}
 use Rattle.text_reading.proofs.Bytes.{here, after-is, after-not, one-is, one-not, not-below, not-above}
 

@@ -3,16 +3,16 @@
 use mathlib.Core.Path.{_≡_, subst⁻¹}
 use mathlib.Core.Bool.{true, false, _&&_}
 use mathlib.Core.List.{List}
-use Prim.Native.Nat.{ℕ, _+_, _-_, _≤_, _<_}
+use Prim.Native.Nat.{ℕ, _+_, _-_, _≤_}
 use native.Mathlib.Omega.{arith}
-use lib.ListN.{length, getD, drop}
+use lib.ListN.{getD, drop}
 use lib.Dec.{leb}
 use Rattle.text.specs.Grammar.{nought, variable}
 use Rattle.text.specs.Convert.{wrongAt}
 use Rattle.text_reading.specs.declared.Read.{Read}
 use Rattle.text_reading.specs.declared.Scope.{Scope}
-use Rattle.text_reading.specs.Reading.{listed, orNone, firstOf, onward, Ready, PartRead, fails, reads, LeafRead}
-use Rattle.text_reading.proofs.Bytes.{here, not-below, not-above}
+use Rattle.text_reading.specs.Reading.{listed, orNone, firstOf, onward, PartRead, fails, reads, LeafRead}
+use Rattle.text_reading.proofs.Bytes.{here, not-below}
 use Rattle.text_reading.proofs.Steps.{leaf-nought, leaf-variable, leaf-stops}
 use Rattle.text_reading.proofs.Parts.{part-nought, part-variable}
 use Rattle.text_reading.proofs.Outcome.{stopped-at}
@@ -39,14 +39,14 @@ module _ (text : List ℕ) (from : Read) (scope : Scope) {b : ℕ} (byte : b ≡
   pub variable-read : (b ≡ 48 → ⊥) → (leb 88 b && leb b 90) ≡ true → (l w : ℕ) → l ≡ 256 + getD (scope .owners) (b - 88) 0
       → w ≡ firstOf (from .wrong) (orNone (wrongAt (listed (scope .recs)) (listed (scope .prefixed)) (from .at) (variable (b - 88))))
       → LeafRead text from scope (
-        record {
-          ok = true;
-          at = from .at + 1;
-          link = l;
-          places = from .places;
-          recs = from .recs;
-          wrong = w;
-        }
+      record {
+        ok = true;
+        at = from .at + 1;
+        link = l;
+        places = from .places;
+        recs = from .recs;
+        wrong = w;
+      }
       )
   variable-read n q l w known e =
       let low : 88 ≤ b = not-below 88 b 90 q in

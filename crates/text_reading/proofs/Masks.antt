@@ -3,12 +3,11 @@
 use mathlib.Core.Path.{_≡_, refl, sym, ap, _∙_}
 use mathlib.Core.Bool.{Bool, true, false, not, cond, _&&_, _||_}
 use mathlib.Core.List.{List, [], _∷_}
-use mathlib.Core.Option.{none, some}
 use Prim.Native.Nat.{ℕ, zero, suc, _+_, _-_, _*_, _^_, _/_, _%_, _≤_, _<_}
 use native.Mathlib.Nat.{lt-of-not-le}
 use native.Mathlib.Omega.{arith}
 use native.Mathlib.Decide.{decLe}
-use lib.Dec.{eqb, ltb}
+use lib.Dec.{eqb}
 use lib.Bits.{bitAnd, bitOr}
 use borrow.Author.Tests.{eq-eqb, ne-eqb, eqb-true}
 use Rattle.model.specs.Lists.{any, keep}
@@ -16,7 +15,7 @@ use Rattle.model.specs.Contract.{has}
 use Rattle.model.proofs.Bits.{has-and}
 use Rattle.model.proofs.Masks.{has-more}
 use Rattle.text.specs.Grammar.{Tree, nought, bare, dotted, summed, chosen, bound, variable, bracket}
-use Rattle.text.specs.Convert.{wrongAt, orElse, widthOf, actionWidth}
+use Rattle.text.specs.Convert.{wrongAt, widthOf, actionWidth}
 use Rattle.text_reading.specs.Reading.{listed, orNone, firstOf}
 
 -- ---- members of a part of a list

@@ -1,19 +1,17 @@
 -- What was read, for each kind of tree, from what was read for its parts.
 -- Assumes nothing.
 use mathlib.Core.Path.{_≡_, refl, sym, ap, subst, subst⁻¹, _∙_}
-use mathlib.Core.Bool.{Bool, true, false, not, cond}
+use mathlib.Core.Bool.{Bool, true, false, cond}
 use mathlib.Core.Option.{Option, none, some}
 use mathlib.Core.List.{List, [], _∷_, _++_, map, append-assoc, append-nil, map-append}
-use Prim.Native.Nat.{ℕ, suc, _+_, _*_, _≤_, _<_}
+use Prim.Native.Nat.{ℕ, suc, _+_, _≤_, _<_}
 use native.Mathlib.Omega.{arith}
-use native.Mathlib.Numerals.{add-one}
-use lib.ListN.{length, getD, set, take, drop, length-set, length-take, length-append}
-use lib.Seq.{take-suc-set, take-set-lt, take-suc, length-take-le, set-append-left, take-append-le}
+use lib.ListN.{length, getD, set, take, drop, length-set}
+use lib.Seq.{take-suc-set, take-set-lt, length-take-le, set-append-left}
 use lib.Dec.{eqb}
-use borrow.Author.Tests.{eq-eqb, ne-eqb, eqb-true}
-use Rattle.model.specs.Lists.{any, keep}
+use borrow.Author.Tests.{ne-eqb, eqb-true}
 use Rattle.text.specs.Grammar.{Tree, nought, bare, dotted, summed, chosen, bound, variable, bracket}
-use Rattle.text.specs.Terms.{Term, end, before, plus, inner, loop, name, termOf}
+use Rattle.text.specs.Terms.{termOf}
 use Rattle.text.specs.Places.{sizeOf}
 use Rattle.text.specs.Cells.{Cell, packed, recsOf, linkTo, choiceCell, cellsIn, bodiesIn}
 use Rattle.text.specs.Convert.{actionWidth, widthOf, wrongAt, orElse}
@@ -114,14 +112,14 @@ module _ {text : List ℕ} {from : Read} {scope : Scope} {cells bodies : List �
   pub part-variable : (v l w : ℕ) → from .at < length text → l ≡ 256 + getD (scope .owners) v 0
       → w ≡ firstOf (from .wrong) (orNone (wrongAt (listed (scope .recs)) (listed (scope .prefixed)) (from .at) (variable v)))
       → PartRead text from scope cells bodies (variable v) (drop (from .at + 1) text) (
-        record {
-          ok = true;
-          at = from .at + 1;
-          link = l;
-          places = from .places;
-          recs = from .recs;
-          wrong = w;
-        }
+      record {
+        ok = true;
+        at = from .at + 1;
+        link = l;
+        places = from .places;
+        recs = from .recs;
+        wrong = w;
+      }
       ) cells bodies
   unfolding widthOf termOf linkTo sizeOf recsOf cellsIn bodiesIn
   part-variable v l w h known e =
@@ -151,20 +149,20 @@ module _ {text : List ℕ} {from : Read} {scope : Scope} {cells bodies : List �
     unfolding onward celled widthOf termOf linkTo sizeOf recsOf cellsIn bodiesIn wrongAt orNone
     part-bare put =
         put-part put (
-          record {
-            is-ok = refl;
-            at-is = behind;
-            inside = small;
-            left = refl;
-            link-is = omega arith;
-            places-are = omega arith;
-            recs-are = omega arith;
-            cells-are = cell-more cells (from .places) _ bare-room (ready .cells-room);
-            bodies-are = sym (append-nil _);
-            wrong-is = first-none (from .wrong);
-            cells-room = length-set cells _ _ ∙ ready .cells-room;
-            bodies-room = ready .bodies-room;
-          }
+        record {
+          is-ok = refl;
+          at-is = behind;
+          inside = small;
+          left = refl;
+          link-is = omega arith;
+          places-are = omega arith;
+          recs-are = omega arith;
+          cells-are = cell-more cells (from .places) _ bare-room (ready .cells-room);
+          bodies-are = sym (append-nil _);
+          wrong-is = first-none (from .wrong);
+          cells-room = length-set cells _ _ ∙ ready .cells-room;
+          bodies-room = ready .bodies-room;
+        }
         )
 
     module _ {t : Tree} {r : List ℕ} {mid : Read} {cells′ bodies′ : List ℕ}
@@ -181,24 +179,24 @@ module _ {text : List ℕ} {from : Read} {scope : Scope} {cells bodies : List �
       part-dotted put =
           let same : at + 1 ≡ from .at + suc (actionWidth j) = omega arith in
           put-part put (
-            record {
-              is-ok = refl;
-              at-is = omega (arith, part .at-is);
-              inside = part .inside;
-              left = part .left;
-              link-is = omega (arith, part .places-are);
-              places-are = omega (arith, part .places-are);
-              recs-are = part .recs-are;
-              cells-are =
-                  cells-more cells′ (take (1 + from .places) cells) (cellsIn (scope .owners) (from .places) (from .recs) (termOf t)) (mid .places)
-                  dotted-room (part .cells-room) (part .cells-are) (ap (λ (k : ℕ). record { kind = j; left = k; right = 0 }) (part .link-is));
-              bodies-are = part .bodies-are;
-              wrong-is =
-                  part .wrong-is
-                  ∙ ap (λ (i : ℕ). firstOf (from .wrong) (orNone (wrongAt (listed (scope .recs)) (listed (scope .recs)) i t))) same;
-              cells-room = length-set cells′ _ _ ∙ part .cells-room;
-              bodies-room = part .bodies-room;
-            }
+          record {
+            is-ok = refl;
+            at-is = omega (arith, part .at-is);
+            inside = part .inside;
+            left = part .left;
+            link-is = omega (arith, part .places-are);
+            places-are = omega (arith, part .places-are);
+            recs-are = part .recs-are;
+            cells-are =
+                cells-more cells′ (take (1 + from .places) cells) (cellsIn (scope .owners) (from .places) (from .recs) (termOf t)) (mid .places)
+                dotted-room (part .cells-room) (part .cells-are) (ap (λ (k : ℕ). record { kind = j; left = k; right = 0 }) (part .link-is));
+            bodies-are = part .bodies-are;
+            wrong-is =
+                part .wrong-is
+                ∙ ap (λ (i : ℕ). firstOf (from .wrong) (orNone (wrongAt (listed (scope .recs)) (listed (scope .recs)) i t))) same;
+            cells-room = length-set cells′ _ _ ∙ part .cells-room;
+            bodies-room = part .bodies-room;
+          }
           )
 
   -- ---- brackets
@@ -236,9 +234,9 @@ module _ {text : List ℕ} {from : Read} {scope : Scope} {cells bodies : List �
       let next : from .recs + 1 ≡ suc (from .recs) = omega arith in
       let more : mid .recs ≡ from .recs + 1 + recsOf (termOf t) = part .recs-are in
       let link : mid .link ≡ linkTo (set (scope .owners) v (from .recs)) (from .places) (suc (from .recs)) (termOf t) =
-          part .link-is
-          ∙ ap (λ o. linkTo o (from .places) (from .recs + 1) (termOf t)) (known .owners-are)
-          ∙ ap (λ (k : ℕ). linkTo (set (scope .owners) v (from .recs)) (from .places) k (termOf t)) next
+      part .link-is
+      ∙ ap (λ o. linkTo o (from .places) (from .recs + 1) (termOf t)) (known .owners-are)
+      ∙ ap (λ (k : ℕ). linkTo (set (scope .owners) v (from .recs)) (from .places) k (termOf t)) next
       in
       record {
         is-ok = part .is-ok;
@@ -352,9 +350,9 @@ module _ {join : Tree → Tree → Tree} {kind gap : ℕ} (choice : Choice join 
       let first = cellsIn (scope .owners) (from .places) (from .recs) (termOf t) in
       let front = take (1 + from .places) cells in
       let second : cellsIn (scope .owners) (mid .places) (mid .recs) (termOf u)
-          ≡ cellsIn (scope .owners) (from .places + sizeOf (termOf t)) (from .recs + recsOf (termOf t)) (termOf u) =
-          ap (λ (n : ℕ). cellsIn (scope .owners) n (mid .recs) (termOf u)) (one .places-are)
-          ∙ ap (λ (n : ℕ). cellsIn (scope .owners) (from .places + sizeOf (termOf t)) n (termOf u)) (one .recs-are)
+      ≡ cellsIn (scope .owners) (from .places + sizeOf (termOf t)) (from .recs + recsOf (termOf t)) (termOf u) =
+      ap (λ (n : ℕ). cellsIn (scope .owners) n (mid .recs) (termOf u)) (one .places-are)
+      ∙ ap (λ (n : ℕ). cellsIn (scope .owners) (from .places + sizeOf (termOf t)) n (termOf u)) (one .recs-are)
       in
       two .cells-are
       ∙ ap (λ l. l ++ map packed (cellsIn (scope .owners) (mid .places) (mid .recs) (termOf u))) (one .cells-are)
@@ -399,23 +397,23 @@ module _ {join : Tree → Tree → Tree} {kind gap : ℕ} (choice : Choice join 
       let last = choiceCell (scope .owners) (from .places) (from .recs) kind (termOf t) (termOf u) in
       let front = take (1 + from .places) cells in
       put-part put (
-        record {
-          is-ok = refl;
-          at-is = omega (arith, one .at-is, two .at-is, choice .width-is t u);
-          inside = two .inside;
-          left = two .left;
-          link-is = omega (arith, one .places-are, two .places-are, choice .link-is t u (scope .owners) (from .places) (from .recs));
-          places-are = omega (arith, one .places-are, two .places-are, choice .size-is t u);
-          recs-are = omega (arith, one .recs-are, two .recs-are, choice .recs-are t u);
-          cells-are =
-              cells-more cells″ front (first ++ second) (next .places) joined-room (two .cells-room) joined-cells joined-cell
-              ∙ ap (λ (l : List Cell). front ++ map packed l)
-              (append-assoc first second (last ∷ []) ∙ sym (choice .cells-are t u (scope .owners) (from .places) (from .recs)));
-          bodies-are = joined-bodies;
-          wrong-is = joined-wrong;
-          cells-room = length-set cells″ _ _ ∙ two .cells-room;
-          bodies-room = two .bodies-room;
-        }
+      record {
+        is-ok = refl;
+        at-is = omega (arith, one .at-is, two .at-is, choice .width-is t u);
+        inside = two .inside;
+        left = two .left;
+        link-is = omega (arith, one .places-are, two .places-are, choice .link-is t u (scope .owners) (from .places) (from .recs));
+        places-are = omega (arith, one .places-are, two .places-are, choice .size-is t u);
+        recs-are = omega (arith, one .recs-are, two .recs-are, choice .recs-are t u);
+        cells-are =
+            cells-more cells″ front (first ++ second) (next .places) joined-room (two .cells-room) joined-cells joined-cell
+            ∙ ap (λ (l : List Cell). front ++ map packed l)
+            (append-assoc first second (last ∷ []) ∙ sym (choice .cells-are t u (scope .owners) (from .places) (from .recs)));
+        bodies-are = joined-bodies;
+        wrong-is = joined-wrong;
+        cells-room = length-set cells″ _ _ ∙ two .cells-room;
+        bodies-room = two .bodies-room;
+      }
       )
 
 -- ---- where the next part begins

@@ -3,30 +3,17 @@
 use mathlib.Core.Path.{_≡_, refl, sym, ap, subst, subst⁻¹, _∙_}
 use mathlib.Core.Bool.{true, false, _&&_}
 use mathlib.Core.List.{List, [], _∷_}
-use Prim.Native.Nat.{ℕ, zero, suc, _+_, _-_, _≤_, _<_}
+use Prim.Native.Nat.{ℕ, _+_, _-_, _≤_, _<_}
 use native.Mathlib.Omega.{arith}
-use lib.ListN.{length, getD, set, drop, length-set}
-use lib.Dec.{leb, ltb}
+use lib.ListN.{length, getD, set, drop}
+use lib.Dec.{leb}
 use borrow.Author.Tests.{lt-ltb, le-ltb}
 use Rattle.text.specs.Grammar.{Tree, bare, dotted, bound, bracket}
-use Rattle.text.specs.Parser.{Parse, failed, parsed, andThen, expects, acted, bracketed, looped}
+use Rattle.text.specs.Parser.{Parse, parsed, andThen, expects, acted, bracketed, looped}
 use Rattle.text.specs.Convert.{actionWidth}
 use Rattle.text_reading.specs.declared.Read.{Read}
 use Rattle.text_reading.specs.declared.Scope.{Scope}
-use Rattle.text_reading.specs.Reading.{
-  onward,
-  withRec,
-  prefixedScope,
-  InRec,
-  CellPut,
-  RecHead,
-  Ready,
-  Stopped,
-  PartRead,
-  ReadAs,
-  fails,
-  reads,
-}
+use Rattle.text_reading.specs.Reading.{onward, withRec, prefixedScope, InRec, CellPut, RecHead, Ready, PartRead, ReadAs, fails, reads}
 use Rattle.text_reading.proofs.Bytes.{here, not-below, not-above}
 use Rattle.text_reading.proofs.Steps.{acted-bare, acted-dot, bracket-fails, bracket-stops, bracket-ends, then-fails, then-goes}
 use Rattle.text_reading.proofs.Parts.{bare-room, part-bare, dotted-room, part-dotted, part-bracket, part-bound}

@@ -1,35 +1,15 @@
 -- What each definition of the reader gives at a place of a text, for the byte that stands there.
 -- Assumes nothing.
-use mathlib.Core.Path.{_≡_, refl, sym, ap, _∙_}
+use mathlib.Core.Path.{_≡_, refl, ap}
 use mathlib.Core.Bool.{true, false, _&&_}
-use mathlib.Core.Option.{none, some}
 use mathlib.Core.List.{List, [], _∷_}
-use Prim.Native.Nat.{ℕ, zero, suc, _+_, _-_, _≤_, _<_}
+use Prim.Native.Nat.{ℕ, zero, suc, _+_, _-_, _≤_}
 use native.Mathlib.Omega.{arith}
-use lib.ListN.{length, getD, drop}
+use lib.ListN.{getD, drop}
 use lib.Dec.{leb}
-use Rattle.text.specs.Grammar.{Tree, nought, bare, dotted, bound, variable, bracket}
-use Rattle.text.specs.Parser.{
-  Parse,
-  failed,
-  parsed,
-  andThen,
-  choose,
-  oneOf,
-  after,
-  expects,
-  chain,
-  sumsOf,
-  wholeOf,
-  leaf,
-  acted,
-  sent,
-  bracketed,
-  looped,
-  step,
-  tightAt,
-}
-use Rattle.text_reading.proofs.Bytes.{after-is, after-not, one-is, one-not, not-below, not-above}
+use Rattle.text.specs.Grammar.{Tree, nought, bare, dotted, variable, bracket}
+use Rattle.text.specs.Parser.{Parse, failed, parsed, andThen, choose, expects, wholeOf, leaf, acted, sent, bracketed, looped, step, tightAt}
+use Rattle.text_reading.proofs.Bytes.{after-is, after-not, one-is, one-not, not-below}
 
 -- ---- 0 and variables
 

@@ -8,7 +8,6 @@ use native.Mathlib.Omega.{arith}
 use native.Mathlib.Numerals.{add-one}
 use lib.ListN.{length, getD, set, take, drop, length-append, drop-of-length-le}
 use lib.Seq.{take-suc, take-suc-set, take-all, drop-cons}
-use lib.Dec.{eqb}
 use borrow.Author.Tests.{eq-eqb, ne-eqb}
 use Rattle.model.specs.Lists.{keep}
 use Rattle.text.specs.Convert.{isBlank, dropped, placeOfByte}
@@ -50,8 +49,7 @@ blank-left out n b e =
 pub byte-kept : (out : List ℕ) (n b : ℕ) → n < length out → (b ≡ 32 → ⊥)
     → (take (n + 1) (set out n b) ≡ take n out ++ dropped (b ∷ [])) × (n + 1 ≡ n + length (dropped (b ∷ [])))
 byte-kept out n b h k =
-    let d = one-byte b k in
-    (
+    let d = one-byte b k in (
       ap (λ (m : ℕ). take m (set out n b)) (add-one n) ∙ take-suc-set out n b h ∙ ap (λ l. take n out ++ l) (sym d),
       omega (arith, ap length d),
     )

@@ -12,11 +12,11 @@ use Rattle.model.specs.Contract.{has}
 use Rattle.text.specs.Grammar.{Tree}
 use Rattle.text.specs.Terms.{termOf}
 use Rattle.text.specs.Parser.{Parse, failed, parsed, wholeOf, tightAt, ended, parseOf}
-use Rattle.text.specs.Convert.{wrongAt, mostDeep}
+use Rattle.text.specs.Convert.{mostDeep}
 use Rattle.text.specs.Cells.{packed, cellsIn, noOwners, bodyLinks}
 use Rattle.text_reading.specs.declared.Read.{Read}
 use Rattle.text_reading.specs.declared.Scope.{Scope}
-use Rattle.text_reading.specs.Reading.{listed, orNone, firstOf, PartRead, ReadAs, WholeRead, TextRead}
+use Rattle.text_reading.specs.Reading.{listed, firstOf, PartRead, ReadAs, WholeRead, TextRead}
 use Rattle.text_reading.proofs.Outcome.{failing, reading}
 
 -- where reading begins
@@ -89,7 +89,7 @@ module _ {text cells bodies : List ℕ} {part : Read} {cells′ bodies′ : List
     text-ends end room =
         let w = reading h fine in
         let all : parseOf mostDeep text ≡ parsed (w .0) [] =
-            ap ended (w .2 ∙ ap (parsed (w .0)) (w .3 .left ∙ drop-of-length-le text end))
+        ap ended (w .2 ∙ ap (parsed (w .0)) (w .3 .left ∙ drop-of-length-le text end))
         in
         record {
           unread = λ s f. absurd (not-both f all);

@@ -1,9 +1,9 @@
 // Contracts typed as text, read by recursive descent into cells: the depth that is left falls at each call of its own, and a chain of + or
 // of (+) is a loop. Request 7/13.
 ghost use mathlib.Core.Path.{_≡_};
-ghost use mathlib.Core.Bool.{true, false, _&&_};
+ghost use mathlib.Core.Bool.{false, _&&_};
 ghost use mathlib.Core.List.{[], _∷_, _++_};
-ghost use Prim.Native.Nat.{_+_, _-_, _*_, _≤_, _<_};
+ghost use Prim.Native.Nat.{_+_, _≤_, _<_};
 ghost use lib.ListN.{length, getD, take, drop};
 ghost use lib.Dec.{leb};
 ghost use Rattle.text.specs.Grammar.{variable};
@@ -116,7 +116,11 @@ fn judged(from: Read, scope: Scope, v: u8) -> u16
     if from.wrong != 256 {
         return from.wrong;
     }
-    if (scope.prefixed >> v) % 2 == 1 { 256 } else { from.at as u16 }
+    if (scope.prefixed >> v) % 2 == 1 {
+        256
+    } else {
+        from.at as u16
+    }
 }
 
 // Whether a byte is one of those from `low` to `high`.
@@ -197,7 +201,16 @@ fn rec_head(text: &[u8], at: usize) -> usize
 }
 
 // Behind an action, which ends before `at`: a dot and a part, or the end.
-fn read_behind(text: &[u8], from: Read, at: usize, depth: usize, scope: Scope, action: u8, cells: &mut [u32], bodies: &mut [u16]) -> Read
+fn read_behind(
+    text: &[u8],
+    from: Read,
+    at: usize,
+    depth: usize,
+    scope: Scope,
+    action: u8,
+    cells: &mut [u32],
+    bodies: &mut [u16],
+) -> Read
     requires { ⌜ Ready (now text) from scope (now cells) (now bodies) × (at ≡ from .at + actionWidth action) × (at ≤ length (now text)) ⌝ }
     ensures { λ r. ⌜ ReadAs (now (text .entry)) from scope (now (cells .entry)) (now (bodies .entry))
         (acted (tightAt (length (now (text .entry))) depth) (wholeOf (length (now (text .entry))) (tightAt (length (now (text .entry))) depth)) action (drop at (now (text .entry)))) r (now (cells .exit)) (now (bodies .exit)) ⌝ }
@@ -206,7 +219,14 @@ fn read_behind(text: &[u8], from: Read, at: usize, depth: usize, scope: Scope, a
     if byte_at(text, at) != 46 {
         return put_cell(cells, here, action, 0, 0);
     }
-    let part = read_tight(text, onwards(from, at + 1, 0), depth, behind_prefix(scope), cells, bodies);
+    let part = read_tight(
+        text,
+        onwards(from, at + 1, 0),
+        depth,
+        behind_prefix(scope),
+        cells,
+        bodies,
+    );
     if !part.ok {
         return part;
     }
@@ -214,12 +234,26 @@ fn read_behind(text: &[u8], from: Read, at: usize, depth: usize, scope: Scope, a
 }
 
 // At (: a whole part behind it, and ).
-fn read_bracket(text: &[u8], from: Read, depth: usize, scope: Scope, cells: &mut [u32], bodies: &mut [u16]) -> Read
+fn read_bracket(
+    text: &[u8],
+    from: Read,
+    depth: usize,
+    scope: Scope,
+    cells: &mut [u32],
+    bodies: &mut [u16],
+) -> Read
     requires { ⌜ Ready (now text) from scope (now cells) (now bodies) × (from .at < length (now text)) ⌝ }
     ensures { λ r. ⌜ ReadAs (now (text .entry)) from scope (now (cells .entry)) (now (bodies .entry))
         (bracketed (tightAt (length (now (text .entry))) depth) (wholeOf (length (now (text .entry))) (tightAt (length (now (text .entry))) depth)) (drop (from .at + 1) (now (text .entry)))) r (now (cells .exit)) (now (bodies .exit)) ⌝ }
 {
-    let part = read_whole(text, onwards(from, from.at + 1, 0), depth, scope, cells, bodies);
+    let part = read_whole(
+        text,
+        onwards(from, from.at + 1, 0),
+        depth,
+        scope,
+        cells,
+        bodies,
+    );
     if !part.ok {
         return part;
     }
@@ -230,7 +264,14 @@ fn read_bracket(text: &[u8], from: Read, depth: usize, scope: Scope, cells: &mut
 }
 
 // At r: ec behind it, a variable, a dot, and the body.
-fn read_rec(text: &[u8], from: Read, depth: usize, scope: Scope, cells: &mut [u32], bodies: &mut [u16]) -> Read
+fn read_rec(
+    text: &[u8],
+    from: Read,
+    depth: usize,
+    scope: Scope,
+    cells: &mut [u32],
+    bodies: &mut [u16],
+) -> Read
     requires { ⌜ Ready (now text) from scope (now cells) (now bodies) × (from .at < length (now text)) ⌝ }
     ensures { λ r. ⌜ ReadAs (now (text .entry)) from scope (now (cells .entry)) (now (bodies .entry))
         (expects (101 ∷ 99 ∷ []) (looped (tightAt (length (now (text .entry))) depth) (wholeOf (length (now (text .entry))) (tightAt (length (now (text .entry))) depth))) (drop (from .at + 1) (now (text .entry)))) r (now (cells .exit)) (now (bodies .exit)) ⌝ }
@@ -242,7 +283,14 @@ fn read_rec(text: &[u8], from: Read, depth: usize, scope: Scope, cells: &mut [u3
     let v = byte_at(text, from.at + 3) - 88;
     let number = from.recs;
     let inner = in_rec(scope, v, number as u8);
-    let body = read_tight(text, with_rec(from, from.at + 5), depth, inner, cells, bodies);
+    let body = read_tight(
+        text,
+        with_rec(from, from.at + 5),
+        depth,
+        inner,
+        cells,
+        bodies,
+    );
     if !body.ok {
         return body;
     }
@@ -251,7 +299,14 @@ fn read_rec(text: &[u8], from: Read, depth: usize, scope: Scope, cells: &mut [u3
 }
 
 // tight ::= 0 | variable | action | action . tight | rec variable . tight | ( whole )
-fn read_tight(text: &[u8], from: Read, depth: usize, scope: Scope, cells: &mut [u32], bodies: &mut [u16]) -> Read
+fn read_tight(
+    text: &[u8],
+    from: Read,
+    depth: usize,
+    scope: Scope,
+    cells: &mut [u32],
+    bodies: &mut [u16],
+) -> Read
     requires { ⌜ Ready (now text) from scope (now cells) (now bodies) ⌝ }
     ensures { λ r. ⌜ ReadAs (now (text .entry)) from scope (now (cells .entry)) (now (bodies .entry))
         (tightAt (length (now (text .entry))) depth (drop (from .at) (now (text .entry)))) r (now (cells .exit)) (now (bodies .exit)) ⌝ }
@@ -261,14 +316,32 @@ fn read_tight(text: &[u8], from: Read, depth: usize, scope: Scope, cells: &mut [
     }
     let b = byte_at(text, from.at);
     if within(b, 97, 103) {
-        return read_behind(text, from, from.at + 1, depth - 1, scope, b - 97, cells, bodies);
+        return read_behind(
+            text,
+            from,
+            from.at + 1,
+            depth - 1,
+            scope,
+            b - 97,
+            cells,
+            bodies,
+        );
     }
     if b == 33 {
         let sent = byte_at(text, from.at + 1);
         if !within(sent, 97, 103) {
             return stopped(from.at + 1);
         }
-        return read_behind(text, from, from.at + 2, depth - 1, scope, sent - 90, cells, bodies);
+        return read_behind(
+            text,
+            from,
+            from.at + 2,
+            depth - 1,
+            scope,
+            sent - 90,
+            cells,
+            bodies,
+        );
     }
     if b == 40 {
         return read_bracket(text, from, depth - 1, scope, cells, bodies);
@@ -280,7 +353,14 @@ fn read_tight(text: &[u8], from: Read, depth: usize, scope: Scope, cells: &mut [
 }
 
 // sums ::= tight | sums + tight
-fn read_sums(text: &[u8], from: Read, depth: usize, scope: Scope, cells: &mut [u32], bodies: &mut [u16]) -> Read
+fn read_sums(
+    text: &[u8],
+    from: Read,
+    depth: usize,
+    scope: Scope,
+    cells: &mut [u32],
+    bodies: &mut [u16],
+) -> Read
     requires { ⌜ Ready (now text) from scope (now cells) (now bodies) ⌝ }
     ensures { λ r. ⌜ ReadAs (now (text .entry)) from scope (now (cells .entry)) (now (bodies .entry))
         (sumsOf (length (now (text .entry))) (tightAt (length (now (text .entry))) depth) (drop (from .at) (now (text .entry)))) r (now (cells .exit)) (now (bodies .exit)) ⌝ }
@@ -290,7 +370,14 @@ fn read_sums(text: &[u8], from: Read, depth: usize, scope: Scope, cells: &mut [u
         return part;
     }
     while byte_at(text, part.at) == 43 {
-        let next = read_tight(text, onwards(part, part.at + 1, 0), depth, scope, cells, bodies);
+        let next = read_tight(
+            text,
+            onwards(part, part.at + 1, 0),
+            depth,
+            scope,
+            cells,
+            bodies,
+        );
         if !next.ok {
             return next;
         }
@@ -300,7 +387,14 @@ fn read_sums(text: &[u8], from: Read, depth: usize, scope: Scope, cells: &mut [u
 }
 
 // whole ::= sums | whole (+) sums
-fn read_whole(text: &[u8], from: Read, depth: usize, scope: Scope, cells: &mut [u32], bodies: &mut [u16]) -> Read
+fn read_whole(
+    text: &[u8],
+    from: Read,
+    depth: usize,
+    scope: Scope,
+    cells: &mut [u32],
+    bodies: &mut [u16],
+) -> Read
     requires { ⌜ Ready (now text) from scope (now cells) (now bodies) ⌝ }
     ensures { λ r. ⌜ ReadAs (now (text .entry)) from scope (now (cells .entry)) (now (bodies .entry))
         (wholeOf (length (now (text .entry))) (tightAt (length (now (text .entry))) depth) (drop (from .at) (now (text .entry)))) r (now (cells .exit)) (now (bodies .exit)) ⌝ }
@@ -316,7 +410,14 @@ fn read_whole(text: &[u8], from: Read, depth: usize, scope: Scope, cells: &mut [
         if byte_at(text, part.at + 2) != 41 {
             return stopped(part.at + 2);
         }
-        let next = read_sums(text, onwards(part, part.at + 3, 0), depth, scope, cells, bodies);
+        let next = read_sums(
+            text,
+            onwards(part, part.at + 3, 0),
+            depth,
+            scope,
+            cells,
+            bodies,
+        );
         if !next.ok {
             return next;
         }

@@ -1,19 +1,18 @@
 -- The functions of the reader meet their contracts. Those that call each other have measures of four times the depth that is left: a tight
 -- part is below its chains, these below their brackets, and all of them below a tight part with one more depth left. A loop's invariant:
 -- whatever the first part begins, the part so far goes on with it. Assumes nothing.
-use mathlib.Core.Path.{_≡_, refl, sym, ap, _∙_}
-use mathlib.Core.Bool.{true, false}
+use mathlib.Core.Path.{_≡_, sym, ap, _∙_}
 use mathlib.Core.List.{List, [], _∷_}
-use Prim.Native.Nat.{_+_, _-_, _*_, _≤_}
+use Prim.Native.Nat.{_+_, _-_, _*_}
 use native.Mathlib.Omega.{arith}
-use lib.ListN.{length, drop, length-set}
+use lib.ListN.{length, drop}
 use borrow.Author.Needs.{needs}
 use borrow.Author.Tests.{not-true, not-false}
 use Rattle.text.specs.Grammar.{summed, chosen}
 use Rattle.text.specs.Parser.{Parse, tightAt, sumsOf, wholeOf, acted}
 use Rattle.text_reading.specs.declared.Read.{Read}
-use Rattle.text_reading.specs.Reading.{Ready, fails}
-use Rattle.text_reading.proofs.Bytes.{here, not-below, not-above}
+use Rattle.text_reading.specs.Reading.{fails}
+use Rattle.text_reading.proofs.Bytes.{here, not-below}
 use Rattle.text_reading.proofs.Steps.{
   tight-step,
   tight-none,
@@ -405,7 +404,7 @@ read-rec-returns-3 t c =
     so.rec-reads (start .pre .1 .0) p (wholeOf n p) (c .before .before .before .before .before .before .before .before .before .before .before .before .before .before .before .rec-head .result) (c .before .before .before .before .before .before .before .before .before .before .before .before .before .before .before .rec-head .ensures) (c .before .before .before .before .before .before .before .before .before .before .before .before .before .before .if1 .left) (c .before .before .before .before .before .before .before .before .before .before .before .before .byte-at .ensures) (c .before .before .before .before .before .before .before .before .before .before .before .in-rec .ensures) (c .before .before .before .before .before .before .before .before .before .with-rec .ensures) (c .before .before .before .before .before .before .read-tight .ensures) (not-false (c .before .before .before .before .before .before .read-tight .result .ok) (c .if2 .left))
 
 abbrev read-sums-Inv-loop : read-sums-lts.InvT-loop
-read-sums-Inv-loop text depth scope cells₀ bodies₀ part₀ cells bodies part = 
+read-sums-Inv-loop text depth scope cells₀ bodies₀ part₀ cells bodies part =
     (from : Read) (old-cells old-bodies : List ℕ) (all : Parse)
     → Chained 43 [] (tightAt (length text) depth) summed text from scope old-cells old-bodies all part₀ cells₀ bodies₀
     → Chained 43 [] (tightAt (length text) depth) summed text from scope old-cells old-bodies all part cells bodies
@@ -725,7 +724,7 @@ read-tight-returns-7 t c =
     (c .read-leaf2 .ensures .leaves (start .args .cells .now) (start .args .bodies .now) (start .pre .1))
 
 abbrev read-whole-Inv-loop : read-whole-lts.InvT-loop
-read-whole-Inv-loop text depth scope cells₀ bodies₀ part₀ cells bodies part = 
+read-whole-Inv-loop text depth scope cells₀ bodies₀ part₀ cells bodies part =
     (from : Read) (old-cells old-bodies : List ℕ) (all : Parse)
     → Chained 40 (43 ∷ 41 ∷ []) (sumsOf (length text) (tightAt (length text) depth)) chosen text from scope old-cells old-bodies all part₀ cells₀ bodies₀
     → Chained 40 (43 ∷ 41 ∷ []) (sumsOf (length text) (tightAt (length text) depth)) chosen text from scope old-cells old-bodies all part cells bodies

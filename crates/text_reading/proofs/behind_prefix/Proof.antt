@@ -1,11 +1,10 @@
+-- `text_reading::behind_prefix` meets its contract: the record is the one that the definition makes.
+-- Assumes nothing.
 use mathlib.Core.Path.{refl}
 use Rattle.text_reading.specs.Reading.{prefixedScope}
 use Rattle.text_reading.proofs.behind_prefix.Statement.{statement}
 use Rattle.text_reading.proofs.behind_prefix.Tie as tie
-use Rattle.text_reading.proofs.behind_prefix.Reads as reads
-use Rattle.text_reading.proofs.behind_prefix.Lts as lts
 
--- src/lib.rt:84:1
 returns : tie.Need-returns
 unfolding prefixedScope
 returns c = refl

@@ -1,25 +1,21 @@
+-- `text_reading::in_rec` meets its contract: one bit more in one mask, one less in the other, asked variable by variable.
+-- Assumes nothing.
 use mathlib.Core.Path.{refl}
 use native.Mathlib.Omega.{arith}
 use Rattle.text_reading.proofs.Masks.{bit-is, bit-small, listed-more, listed-fewer}
 use borrow.Author.Needs.{needs}
 use Rattle.text_reading.proofs.in_rec.Statement.{statement}
 use Rattle.text_reading.proofs.in_rec.Tie as tie
-use Rattle.text_reading.proofs.in_rec.Reads as reads
-use Rattle.text_reading.proofs.in_rec.Lts as lts
 
--- src/lib.rt:102:5
 array-write-owners : tie.Need-array-write-owners
 array-write-owners c = search needs
 
--- src/lib.rt:103:19
 shl-bit : tie.Need-shl-bit
 shl-bit c = search needs
 
--- src/lib.rt:106:37
 sub-t10 : tie.Need-sub-t10
 sub-t10 c = bit-small (c .before .before .args .v) (omega arith)
 
--- src/lib.rt:96:1
 returns : tie.Need-returns
 returns c =
     let a = c .before .before .before .args in

@@ -1,25 +1,21 @@
+-- `text_reading::judged` meets its contract: one that was found before stays, and else the bit of the variable decides.
+-- Assumes nothing.
 use Rattle.text_reading.proofs.Masks.{judged-before, judged-fine, judged-wrong}
 use borrow.Author.Needs.{needs}
 use Rattle.text_reading.proofs.judged.Statement.{statement}
 use Rattle.text_reading.proofs.judged.Tie as tie
-use Rattle.text_reading.proofs.judged.Reads as reads
-use Rattle.text_reading.proofs.judged.Lts as lts
 
--- src/lib.rt:117:9
 returns : tie.Need-returns
 returns c =
     let a = c .before .before .args in
     judged-before (a .scope .recs) (a .scope .prefixed) (a .from .at) (a .v) (a .from .wrong) (c .if1 .taken) _
 
--- src/lib.rt:119:9
 shr-if2 : tie.Need-shr-if2
 shr-if2 c = search needs
 
--- src/lib.rt:119:54
 cast-result : tie.Need-cast-result
 cast-result c = search needs
 
--- src/lib.rt:112:1
 returns-2 : tie.Need-returns-2
 returns-2 c =
     let one = c .before .before in
@@ -27,7 +23,6 @@ returns-2 c =
     let a = start .args in
     judged-fine (a .scope .recs) (a .scope .prefixed) (a .from .at) (a .v) (a .from .wrong) (start .pre .0) (one .if1 .left) (c .if2 .taken)
 
--- src/lib.rt:112:1
 returns-3 : tie.Need-returns-3
 returns-3 c =
     let one = c .before .before .before in

@@ -1,27 +1,22 @@
+-- `text_reading::keep_byte` meets its contract: a blank is dropped, any other byte is put.
+-- Assumes nothing.
 use Rattle.text_reading.proofs.Stripping.{blank-left, byte-kept}
 use borrow.Author.Needs.{needs}
 use Rattle.text_reading.proofs.keep_byte.Statement.{statement}
 use Rattle.text_reading.proofs.keep_byte.Tie as tie
-use Rattle.text_reading.proofs.keep_byte.Reads as reads
-use Rattle.text_reading.proofs.keep_byte.Lts as lts
 
--- src/lib.rt:334:9
 returns : tie.Need-returns
 returns c = blank-left (c .before .args .out .now) (c .before .args .count) (c .before .args .b) (c .if1 .taken)
 
--- src/lib.rt:336:5
 slice-write-out : tie.Need-slice-write-out
 slice-write-out c = search needs
 
--- src/lib.rt:337:5
 add-result : tie.Need-add-result
 add-result c = search needs
 
--- src/lib.rt:329:1
 same-length : tie.Need-same-length
 same-length c = search needs
 
--- src/lib.rt:329:1
 returns-2 : tie.Need-returns-2
 returns-2 c = byte-kept (c .before .args .out .now) (c .before .args .count) (c .before .args .b) (c .before .pre) (c .if1 .left)
 

@@ -1,11 +1,10 @@
+-- `text_reading::onwards` meets its contract: the record is the one that the definition makes.
+-- Assumes nothing.
 use mathlib.Core.Path.{refl}
 use Rattle.text_reading.specs.Reading.{onward}
 use Rattle.text_reading.proofs.onwards.Statement.{statement}
 use Rattle.text_reading.proofs.onwards.Tie as tie
-use Rattle.text_reading.proofs.onwards.Reads as reads
-use Rattle.text_reading.proofs.onwards.Lts as lts
 
--- src/lib.rt:55:1
 returns : tie.Need-returns
 unfolding onward
 returns c = refl

@@ -1,11 +1,11 @@
+-- `text_reading::place_of_byte` meets its contract. The invariant: the byte stands `at` places and as many more as the rest says.
+-- Assumes nothing.
 use Prim.Native.Nat.{_-_}
 use native.Mathlib.Omega.{arith}
 use lib.ListN.{length}
 use Rattle.text_reading.proofs.Stripping.{Seeking, seeking-begins, seeking-blank, seeking-found, seeking-on, seeking-ends}
 use Rattle.text_reading.proofs.place_of_byte.Statement.{statement}
 use Rattle.text_reading.proofs.place_of_byte.Tie as tie
-use Rattle.text_reading.proofs.place_of_byte.Reads as reads
-use Rattle.text_reading.proofs.place_of_byte.Lts as lts
 
 abbrev Inv-loop : tie.InvT-loop
 Inv-loop text i left₀ at₀ left at = Seeking text i left at
@@ -13,53 +13,42 @@ Inv-loop text i left₀ at₀ left at = Seeking text i left at
 abbrev μ-loop : tie.MeasureT-loop
 μ-loop text i left₀ at₀ left at = length text - at
 
--- src/lib.rt:360:5
 loop-holds : tie.Need-loop-holds Inv-loop μ-loop
 loop-holds c = seeking-begins (c .args .text .now) (c .args .i)
 
--- src/lib.rt:361:12
 shared-slice-read-if1 : tie.Need-shared-slice-read-if1 Inv-loop μ-loop
 shared-slice-read-if1 c = omega arith
 
--- src/lib.rt:362:18
 add-at : tie.Need-add-at Inv-loop μ-loop
 add-at c = omega arith
 
--- src/lib.rt:360:5
 loop-less : tie.Need-loop-less Inv-loop μ-loop
 loop-less c = omega arith
 
--- src/lib.rt:360:5
 loop-again : tie.Need-loop-again Inv-loop μ-loop
 loop-again c =
     let turn = c .before .before in
     seeking-blank (turn .before .loop .inv) (turn .loop-test .taken) (c .if1 .taken)
 
--- src/lib.rt:366:13
 returns : tie.Need-returns Inv-loop μ-loop
 returns c =
     let turn = c .before .before .before in
     seeking-found (turn .before .loop .inv) (turn .loop-test .taken) (c .before .if1 .left) (c .if2 .taken)
 
--- src/lib.rt:368:16
 sub-left : tie.Need-sub-left Inv-loop μ-loop
 sub-left c = omega arith
 
--- src/lib.rt:369:14
 add-at-2 : tie.Need-add-at-2 Inv-loop μ-loop
 add-at-2 c = omega arith
 
--- src/lib.rt:360:5
 loop-less-2 : tie.Need-loop-less-2 Inv-loop μ-loop
 loop-less-2 c = omega arith
 
--- src/lib.rt:360:5
 loop-again-2 : tie.Need-loop-again-2 Inv-loop μ-loop
 loop-again-2 c =
     let turn = c .before .before .before in
     seeking-on (turn .before .loop .inv) (turn .loop-test .taken) (c .before .if1 .left) (c .if2 .left)
 
--- src/lib.rt:355:1
 returns-2 : tie.Need-returns-2 Inv-loop μ-loop
 returns-2 c = seeking-ends (c .before .loop .inv) (c .loop-test .left)
 

@@ -1,49 +1,39 @@
+-- `text_reading::put_cell` meets its contract: the number that is put is the packed cell.
+-- Assumes nothing.
 use mathlib.Core.Path.{refl}
 use Rattle.text.specs.Cells.{packed}
 use Rattle.text_reading.specs.Reading.{celled}
 use borrow.Author.Needs.{needs}
 use Rattle.text_reading.proofs.put_cell.Statement.{statement}
 use Rattle.text_reading.proofs.put_cell.Tie as tie
-use Rattle.text_reading.proofs.put_cell.Reads as reads
-use Rattle.text_reading.proofs.put_cell.Lts as lts
 
--- src/lib.rt:160:17
 add-place : tie.Need-add-place
 add-place c = search needs
 
--- src/lib.rt:161:34
 mul-cells : tie.Need-mul-cells
 mul-cells c = search needs
 
--- src/lib.rt:161:20
 add-cells : tie.Need-add-cells
 add-cells c = search needs
 
--- src/lib.rt:161:55
 mul-cells-2 : tie.Need-mul-cells-2
 mul-cells-2 c = search needs
 
--- src/lib.rt:161:20
 add-cells-2 : tie.Need-add-cells-2
 add-cells-2 c = search needs
 
--- src/lib.rt:161:5
 mul-cells-3 : tie.Need-mul-cells-3
 mul-cells-3 c = search needs
 
--- src/lib.rt:161:5
 slice-write-cells : tie.Need-slice-write-cells
 slice-write-cells c = search needs
 
--- src/lib.rt:165:15
 cast-t16 : tie.Need-cast-t16
 cast-t16 c = search needs
 
--- src/lib.rt:156:1
 same-length : tie.Need-same-length
 same-length c = search needs
 
--- src/lib.rt:156:1
 returns : tie.Need-returns
 unfolding packed celled
 returns c = record { to-is = refl; cells-are = refl }

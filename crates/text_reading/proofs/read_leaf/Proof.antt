@@ -1,3 +1,5 @@
+-- `text_reading::read_leaf` meets its contract: 0, a variable, or neither.
+-- Assumes nothing.
 use mathlib.Core.Path.{sym, _∙_}
 use native.Mathlib.Omega.{arith}
 use borrow.Author.Tests.{not-true, not-false}
@@ -6,43 +8,28 @@ use Rattle.text_reading.proofs.Leaves.{nought-read, nothing-read, varia
 use borrow.Author.Needs.{needs}
 use Rattle.text_reading.proofs.read_leaf.Statement.{statement}
 use Rattle.text_reading.proofs.read_leaf.Tie as tie
-use Rattle.text_reading.proofs.read_leaf.Reads as reads
-use Rattle.text_reading.proofs.read_leaf.Lts as lts
-use Rattle.text_reading.proofs.byte_at.Reads as byte-at-reads
-use Rattle.text_reading.proofs.judged.Reads as judged-reads
-use Rattle.text_reading.proofs.onwards.Reads as onwards-reads
-use Rattle.text_reading.proofs.stopped.Reads as stopped-reads
-use Rattle.text_reading.proofs.to_body.Reads as to-body-reads
-use Rattle.text_reading.proofs.within.Reads as within-reads
 
--- src/lib.rt:141:9
 byte-at-requires : tie.Need-byte-at-requires
 byte-at-requires c κs = search needs
 
--- src/lib.rt:143:30
 add-onwards : tie.Need-add-onwards
 add-onwards c = search needs
 
--- src/lib.rt:143:9
 onwards-requires : tie.Need-onwards-requires
 onwards-requires c κs = search needs
 
--- src/lib.rt:143:9
 returns : tie.Need-returns
 returns c =
     let read = c .before .before .before in
     let a = read .before .before .args in
     nought-read (a .text .now) (a .from) (a .scope) (read .byte-at .ensures) (c .before .before .if1 .taken) (c .onwards .ensures)
 
--- src/lib.rt:145:9
 within-requires : tie.Need-within-requires
 within-requires c κs = search needs
 
--- src/lib.rt:146:9
 stopped-requires : tie.Need-stopped-requires
 stopped-requires c κs = search needs
 
--- src/lib.rt:146:9
 returns-2 : tie.Need-returns-2
 returns-2 c =
     let ask = c .before .before in
@@ -51,42 +38,35 @@ returns-2 c =
     nothing-read (a .text .now) (a .from) (a .scope) (read .byte-at .ensures) (ask .before .if1 .left)
     (sym (ask .within .ensures) ∙ not-true (ask .within .result) (c .before .if2 .taken)) (c .stopped .ensures)
 
--- src/lib.rt:148:13
 sub-v : tie.Need-sub-v
 sub-v c =
     not-below 88 (c .before .before .before .byte-at .result) 90
     (sym (c .before .within .ensures) ∙ not-false (c .before .within .result) (c .if2 .left))
 
--- src/lib.rt:149:13
 cast-i : tie.Need-cast-i
 cast-i c = search needs
 
--- src/lib.rt:151:24
 array-read-to-body : tie.Need-array-read-to-body
 array-read-to-body c =
     let ask = c .before .before in
     let b = ask .before .before .byte-at .result in
     omega (arith, not-above 88 b 90 (sym (ask .within .ensures) ∙ not-false (ask .within .result) (c .before .if2 .left)))
 
--- src/lib.rt:151:9
 to-body-requires : tie.Need-to-body-requires
 to-body-requires c κs = search needs
 
--- src/lib.rt:154:13
 add-t15 : tie.Need-add-t15
 add-t15 c = search needs
 
--- src/lib.rt:158:16
 judged-requires : tie.Need-judged-requires
 judged-requires c κs =
     let ask = c .before .before .before .before in
     let read = ask .before .before in
     let q = sym (ask .within .ensures) ∙ not-false (ask .within .result) (c .before .before .before .if2 .left) in
     let h = here (read .before .before .args .text .now) (read .before .before .args .from .at) (read .byte-at .ensures)
-        (omega (arith, not-below 88 (read .byte-at .result) 90 q)) in
+    (omega (arith, not-below 88 (read .byte-at .result) 90 q)) in
     omega (arith, not-above 88 (read .byte-at .result) 90 q, h)
 
--- src/lib.rt:137:1
 returns-3 : tie.Need-returns-3
 returns-3 c =
     let ask = c .before .before .before .before .before in

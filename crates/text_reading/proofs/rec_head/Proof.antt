@@ -1,33 +1,26 @@
+-- `text_reading::rec_head` meets its contract: the bytes are asked one after the other, and each that does not come ends it.
+-- Assumes nothing.
 use borrow.Author.Tests.{not-true, not-false}
 use mathlib.Core.Path.{sym, _∙_}
 use Rattle.text_reading.proofs.Head.{head-none, head-one, head-two, head-three, head-whole}
 use borrow.Author.Needs.{needs}
 use Rattle.text_reading.proofs.rec_head.Statement.{statement}
 use Rattle.text_reading.proofs.rec_head.Tie as tie
-use Rattle.text_reading.proofs.rec_head.Reads as reads
-use Rattle.text_reading.proofs.rec_head.Lts as lts
-use Rattle.text_reading.proofs.byte_at.Reads as byte-at-reads
-use Rattle.text_reading.proofs.within.Reads as within-reads
 
--- src/lib.rt:177:8
 byte-at-requires : tie.Need-byte-at-requires
 byte-at-requires c κs = search needs
 
--- src/lib.rt:178:9
 returns : tie.Need-returns
 returns c =
     let start = c .before .before .before in
     head-none (start .args .text .now) (start .args .at) (c .before .byte-at .ensures) (c .if1 .taken) (start .pre .0)
 
--- src/lib.rt:180:22
 add-byte-at : tie.Need-add-byte-at
 add-byte-at c = search needs
 
--- src/lib.rt:180:8
 byte-at-requires-2 : tie.Need-byte-at-requires-2
 byte-at-requires-2 c κs = search needs
 
--- src/lib.rt:181:9
 returns-2 : tie.Need-returns-2
 returns-2 c =
     let one = c .before .before in
@@ -35,19 +28,15 @@ returns-2 c =
     head-one (start .args .text .now) (start .args .at) (one .before .byte-at .ensures) (one .if1 .left) (c .before .byte-at2 .ensures)
     (c .if2 .taken)
 
--- src/lib.rt:183:30
 add-byte-at-2 : tie.Need-add-byte-at-2
 add-byte-at-2 c = search needs
 
--- src/lib.rt:183:16
 byte-at-requires-3 : tie.Need-byte-at-requires-3
 byte-at-requires-3 c κs = search needs
 
--- src/lib.rt:183:9
 within-requires : tie.Need-within-requires
 within-requires c κs = search needs
 
--- src/lib.rt:184:9
 returns-3 : tie.Need-returns-3
 returns-3 c =
     let two = c .before .before .before in
@@ -56,15 +45,12 @@ returns-3 c =
     head-two (start .args .text .now) (start .args .at) (one .before .byte-at .ensures) (one .if1 .left) (two .before .byte-at2 .ensures)
     (two .if2 .left) (c .before .before .byte-at3 .ensures) (sym (c .before .within .ensures) ∙ not-true (c .before .within .result) (c .if3 .taken))
 
--- src/lib.rt:186:22
 add-byte-at-3 : tie.Need-add-byte-at-3
 add-byte-at-3 c = search needs
 
--- src/lib.rt:186:8
 byte-at-requires-4 : tie.Need-byte-at-requires-4
 byte-at-requires-4 c κs = search needs
 
--- src/lib.rt:187:9
 returns-4 : tie.Need-returns-4
 returns-4 c =
     let three = c .before .before in
@@ -75,7 +61,6 @@ returns-4 c =
     (two .if2 .left) (three .before .before .byte-at3 .ensures) (sym (three .before .within .ensures) ∙ not-false (three .before .within .result) (three .if3 .left))
     (c .before .byte-at4 .ensures) (c .if4 .taken)
 
--- src/lib.rt:173:1
 returns-5 : tie.Need-returns-5
 returns-5 c =
     let three = c .before .before in

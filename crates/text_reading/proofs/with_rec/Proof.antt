@@ -1,16 +1,14 @@
+-- `text_reading::with_rec` meets its contract: the record is the one that the definition makes.
+-- Assumes nothing.
 use mathlib.Core.Path.{refl}
 use Rattle.text_reading.specs.Reading.{withRec}
 use borrow.Author.Needs.{needs}
 use Rattle.text_reading.proofs.with_rec.Statement.{statement}
 use Rattle.text_reading.proofs.with_rec.Tie as tie
-use Rattle.text_reading.proofs.with_rec.Reads as reads
-use Rattle.text_reading.proofs.with_rec.Lts as lts
 
--- src/lib.rt:78:15
 add-t3 : tie.Need-add-t3
 add-t3 c = search needs
 
--- src/lib.rt:69:1
 returns : tie.Need-returns
 unfolding withRec
 returns c = refl

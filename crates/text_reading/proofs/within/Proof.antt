@@ -1,15 +1,13 @@
+-- `text_reading::within` meets its contract: the two tests of the code are those of the definition.
+-- Assumes nothing.
 use mathlib.Core.Path.{refl}
 use borrow.Author.Tests.{le-leb, lt-leb}
 use Rattle.text_reading.proofs.within.Statement.{statement}
 use Rattle.text_reading.proofs.within.Tie as tie
-use Rattle.text_reading.proofs.within.Reads as reads
-use Rattle.text_reading.proofs.within.Lts as lts
 
--- src/lib.rt:123:1
 returns : tie.Need-returns
 returns c = rw (le-leb (c .before .args .low) (c .before .args .b) (c .if1 .taken)) refl
 
--- src/lib.rt:123:1
 returns-2 : tie.Need-returns-2
 returns-2 c = rw (lt-leb (c .before .args .low) (c .before .args .b) (c .if1 .left)) refl
 
