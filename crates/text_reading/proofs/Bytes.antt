@@ -29,12 +29,13 @@ here text at {b} e h = go (decLe (length text) at)
     go (no k) = omega (arith, lt-of-not-le k)
 
 -- what is left from a byte on
-pub from-here : (text : List ℕ) (at : ℕ) {b : ℕ} → b ≡ getD text at 0 → at < length text → drop at text ≡ b ∷ drop (at + 1) text
+from-here : (text : List ℕ) (at : ℕ) {b : ℕ} → b ≡ getD text at 0 → at < length text → drop at text ≡ b ∷ drop (at + 1) text
 from-here text at e h = rw (e, add-one, drop-cons text at 0) refl
 
 -- ---- one byte
 
-pub after-is : {c : ℕ} (text : List ℕ) (at : ℕ) {b : ℕ} → b ≡ getD text at 0 → b ≡ c → 0 < c → after c (drop at text) ≡ some (drop (at + 1) text)
+pub after-is : {c : ℕ} (text : List ℕ) (at : ℕ) {b : ℕ} → b ≡ getD text at 0 → b ≡ c → 0 < c
+    → after c (drop at text) ≡ some (drop (at + 1) text)
 unfolding after
 after-is {c} text at {b} e q h =
     ap (after c) (from-here text at e (here text at e (omega (arith, q)))) ∙ rw (eq-eqb c b (sym q)) refl

@@ -42,7 +42,8 @@ module _ (first : ℕ) (more : List ℕ) (item : List ℕ → Parse) (join : Tre
     -- the first item
     pub chain-begins : Ready text from scope cells bodies → {a : Parse} {t : Tree} {r : List ℕ} → a ≡ parsed t r
         → {part : Read} {cells′ bodies′ : List ℕ} → PartRead text from scope cells bodies t r part cells′ bodies′
-        → Chained first more item join text from scope cells bodies (andThen a (chain first more item join (length text))) part cells′ bodies′
+        → Chained first more item join text from scope cells bodies
+        (andThen a (chain first more item join (length text))) part cells′ bodies′
     chain-begins ready {a} {t} {r} e part =
         record {
           tree = t;
@@ -65,8 +66,9 @@ module _ (first : ℕ) (more : List ℕ) (item : List ℕ → Parse) (join : Tre
           (so .read)
 
       -- the sign's first byte comes
-      pub chain-sign : 0 < first → {b : ℕ} → b ≡ getD text (part .at) 0 → b ≡ first
-          → all ≡ expects more (λ r. andThen (item r) (λ u r. chain first more item join (so .fuel - 1) (join (so .tree) u) r)) (drop (part .at + 1) text)
+      chain-sign : 0 < first → {b : ℕ} → b ≡ getD text (part .at) 0 → b ≡ first
+          → all ≡ expects more (λ r. andThen (item r) (λ u r. chain first more item join (so .fuel - 1) (join (so .tree) u) r))
+          (drop (part .at + 1) text)
       chain-sign pos byte is =
           let h : part .at < length text = here text (part .at) byte (omega (arith, is)) in
           so .all-is
@@ -78,10 +80,12 @@ module _ (first : ℕ) (more : List ℕ) (item : List ℕ → Parse) (join : Tre
       chain-ready gap h = ready-on (so .ready) (so .read) gap h
 
       module _ {gap : ℕ} (some-gap : 1 ≤ gap)
-          (goes : all ≡ andThen (item (drop (part .at + gap) text)) (λ u r. chain first more item join (so .fuel - 1) (join (so .tree) u) r)) where
+          (goes : all ≡ andThen (item (drop (part .at + gap) text))
+          (λ u r. chain first more item join (so .fuel - 1) (join (so .tree) u) r)) where
         -- it cannot be read
         pub chain-fails : {r : List ℕ} → item (drop (part .at + gap) text) ≡ failed r → {next : Read} → Stopped text r next
-            → {cells″ bodies″ : List ℕ} → length cells″ ≡ 257 → length bodies″ ≡ 64 → ReadAs text from scope cells bodies all next cells″ bodies″
+            → {cells″ bodies″ : List ℕ} → length cells″ ≡ 257 → length bodies″ ≡ 64
+            → ReadAs text from scope cells bodies all next cells″ bodies″
         chain-fails {r} e stop c b = fails r (goes ∙ then-fails _ e) stop c b
 
         module _ {kind : ℕ} (choice : Choice join kind gap) {u : Tree} {s : List ℕ} (e : item (drop (part .at + gap) text) ≡ parsed u s)
@@ -114,8 +118,10 @@ module _ (first : ℕ) (more : List ℕ) (item : List ℕ → Parse) (join : Tre
 
 -- ---- +
 
-module _ (item : List ℕ → Parse) (join : Tree → Tree → Tree) {text : List ℕ} {from : Read} {scope : Scope} {cells bodies : List ℕ} {all : Parse} {part : Read}
-    {cells′ bodies′ : List ℕ} (so : Chained 43 [] item join text from scope cells bodies all part cells′ bodies′) {b : ℕ} (byte : b ≡ getD text (part .at) 0)
+module _ (item : List ℕ → Parse) (join : Tree → Tree → Tree) {text : List ℕ} {from : Read} {scope : Scope} {cells bodies : List ℕ}
+    {all : Parse} {part : Read}
+    {cells′ bodies′ : List ℕ} (so : Chained 43 [] item join text from scope cells bodies all part cells′ bodies′) {b : ℕ}
+    (byte : b ≡ getD text (part .at) 0)
     (is : b ≡ 43) where
   pub sum-goes : all ≡ andThen (item (drop (part .at + 1) text)) (λ u r. chain 43 [] item join (so .fuel - 1) (join (so .tree) u) r)
   unfolding expects
@@ -123,7 +129,8 @@ module _ (item : List ℕ → Parse) (join : Tree → Tree → Tree) {text : Lis
 
 -- ---- (+)
 
-module _ (item : List ℕ → Parse) (join : Tree → Tree → Tree) {text : List ℕ} {from : Read} {scope : Scope} {cells bodies : List ℕ} {all : Parse} {part : Read}
+module _ (item : List ℕ → Parse) (join : Tree → Tree → Tree) {text : List ℕ} {from : Read} {scope : Scope} {cells bodies : List ℕ}
+    {all : Parse} {part : Read}
     {cells′ bodies′ : List ℕ} (so : Chained 40 (43 ∷ 41 ∷ []) item join text from scope cells bodies all part cells′ bodies′) {b : ℕ}
     (byte : b ≡ getD text (part .at) 0) (is : b ≡ 40) {b1 : ℕ} (byte1 : b1 ≡ getD text (part .at + 1) 0) where
   pub sign-one : (b1 ≡ 43 → ⊥) → all ≡ failed (drop (part .at + 1) text)

@@ -33,7 +33,7 @@ unfolding any
 any-cond f true x l m = refl
 any-cond f false x l m = refl
 
-pub any-keep : (w : ℕ) (f : ℕ → Bool) (l : List ℕ) → any (eqb w) (keep f l) ≡ (f w && any (eqb w) l)
+any-keep : (w : ℕ) (f : ℕ → Bool) (l : List ℕ) → any (eqb w) (keep f l) ≡ (f w && any (eqb w) l)
 unfolding any keep
 any-keep w f [] = go (f w)
   where
@@ -50,7 +50,7 @@ any-keep w f (x ∷ l) =
 unfoldable pub small : ℕ → Bool
 small w = any (eqb w) (0 ∷ 1 ∷ 2 ∷ [])
 
-pub any-listed : (mask w : ℕ) → any (eqb w) (listed mask) ≡ (has mask w && small w)
+any-listed : (mask w : ℕ) → any (eqb w) (listed mask) ≡ (has mask w && small w)
 unfolding listed small
 any-listed mask w = any-keep w (has mask) (0 ∷ 1 ∷ 2 ∷ [])
 
@@ -70,7 +70,8 @@ more-of false false true k = refl
 more-of false false false k = refl
 
 -- one variable more
-pub listed-more : (mask v : ℕ) {bit : ℕ} → v < 3 → bit ≡ 2 ^ v → (w : ℕ) → any (eqb w) (listed (bitOr mask bit)) ≡ any (eqb w) (v ∷ listed mask)
+pub listed-more : (mask v : ℕ) {bit : ℕ} → v < 3 → bit ≡ 2 ^ v → (w : ℕ)
+    → any (eqb w) (listed (bitOr mask bit)) ≡ any (eqb w) (v ∷ listed mask)
 unfolding any
 listed-more mask v {bit} h e w =
     any-listed (bitOr mask bit) w ∙ ap (λ b. b && small w) (has-more mask v e w)

@@ -39,7 +39,8 @@ module _ {text : List ℕ} {from : Read} {scope : Scope} {cells bodies : List �
   reading (reads t r e s) h = (t, r, e, s)
 
   -- the same for what is the same
-  pub read-so : {q : Parse} → q ≡ p → ReadAs text from scope cells bodies p to cells′ bodies′ → ReadAs text from scope cells bodies q to cells′ bodies′
+  pub read-so : {q : Parse} → q ≡ p → ReadAs text from scope cells bodies p to cells′ bodies′
+      → ReadAs text from scope cells bodies q to cells′ bodies′
   read-so e h = subst (λ (p : Parse). ReadAs text from scope cells bodies p to cells′ bodies′) (sym e) h
 
 -- reading stopped at a byte

@@ -24,7 +24,7 @@ use Rattle.text_reading.proofs.Masks.{wrong-agree}
 -- ---- the first variable at fault
 
 -- nothing is at fault here
-pub first-none : (w : ℕ) → w ≡ firstOf w 256
+first-none : (w : ℕ) → w ≡ firstOf w 256
 unfolding firstOf
 first-none w = go (eqb w 256) refl
   where
@@ -38,7 +38,7 @@ unfolding firstOf orNone orElse
 first-found none b h = refl
 first-found (some k) b h = let l = h k refl in rw (ne-eqb k 256 (λ q. omega arith)) refl
 
-pub first-then : (w : ℕ) (a b : Option ℕ) → ((k : ℕ) → a ≡ some k → k < 256)
+first-then : (w : ℕ) (a b : Option ℕ) → ((k : ℕ) → a ≡ some k → k < 256)
     → firstOf (firstOf w (orNone a)) (orNone b) ≡ firstOf w (orNone (orElse a b))
 unfolding firstOf
 first-then w a b h = go (eqb w 256) refl
@@ -50,7 +50,7 @@ first-then w a b h = go (eqb w 256) refl
 -- ---- tables
 
 -- one cell more
-pub cell-more : (cells : List ℕ) (n x : ℕ) → n < 256 → length cells ≡ 257
+cell-more : (cells : List ℕ) (n x : ℕ) → n < 256 → length cells ≡ 257
     → take (1 + (n + 1)) (set cells (n + 1) x) ≡ take (1 + n) cells ++ (x ∷ [])
 cell-more cells n x h e =
     let s1 : 1 + (n + 1) ≡ suc (n + 1) = omega arith in
@@ -68,7 +68,7 @@ cells-more cells front within {c} {c′} n h e known same =
     ∙ ap (λ l. front ++ l) (sym (map-append packed within (c′ ∷ [])))
 
 -- the body of a rec, put before those within it
-pub body-put : (bodies bodies′ rest : List ℕ) (n m x : ℕ) → n < length bodies → n < m → take m bodies′ ≡ take (n + 1) bodies ++ rest
+body-put : (bodies bodies′ rest : List ℕ) (n m x : ℕ) → n < length bodies → n < m → take m bodies′ ≡ take (n + 1) bodies ++ rest
     → take m (set bodies′ n x) ≡ take n bodies ++ (x ∷ rest)
 body-put bodies bodies′ rest n m x room less e =
     let s1 : n + 1 ≡ suc n = omega arith in
@@ -79,9 +79,11 @@ body-put bodies bodies′ rest n m x room less e =
     ∙ append-assoc (take n bodies) (x ∷ []) rest
 
 -- what holds with a cell of one's own holds with the one that was put
-put-part : {text : List ℕ} {from : Read} {scope : Scope} {cells bodies : List ℕ} {t : Tree} {r : List ℕ} {mid to : Read} {old cells′ bodies′ : List ℕ}
+put-part : {text : List ℕ} {from : Read} {scope : Scope} {cells bodies : List ℕ} {t : Tree} {r : List ℕ} {mid to : Read}
+    {old cells′ bodies′ : List ℕ}
     {kind left right : ℕ} → CellPut old mid kind left right to cells′
-    → PartRead text from scope cells bodies t r (celled mid) (set old (mid .places + 1) (packed (record { kind = kind; left = left; right = right }))) bodies′
+    → PartRead text from scope cells bodies t r (celled mid)
+    (set old (mid .places + 1) (packed (record { kind = kind; left = left; right = right }))) bodies′
     → PartRead text from scope cells bodies t r to cells′ bodies′
 put-part {text} {from} {scope} {cells} {bodies} {t} {r} {mid} {to} {old} {cells′} {bodies′} put part =
     subst⁻¹ (λ (to : Read). PartRead text from scope cells bodies t r to cells′ bodies′) (put .to-is)
@@ -188,7 +190,8 @@ module _ {text : List ℕ} {from : Read} {scope : Scope} {cells bodies : List �
             places-are = omega (arith, part .places-are);
             recs-are = part .recs-are;
             cells-are =
-                cells-more cells′ (take (1 + from .places) cells) (cellsIn (scope .owners) (from .places) (from .recs) (termOf t)) (mid .places)
+                cells-more cells′ (take (1 + from .places) cells) (cellsIn (scope .owners) (from .places) (from .recs) (termOf t))
+                (mid .places)
                 dotted-room (part .cells-room) (part .cells-are) (ap (λ (k : ℕ). record { kind = j; left = k; right = 0 }) (part .link-is));
             bodies-are = part .bodies-are;
             wrong-is =
@@ -226,7 +229,8 @@ module _ {text : List ℕ} {from : Read} {scope : Scope} {cells bodies : List �
 
   -- ---- recs
 
-  pub part-bound : (v : ℕ) {inside : Scope} → InRec scope v (from .recs) inside → {t : Tree} {r : List ℕ} {mid : Read} {cells′ bodies′ : List ℕ}
+  pub part-bound : (v : ℕ) {inside : Scope} → InRec scope v (from .recs) inside
+      → {t : Tree} {r : List ℕ} {mid : Read} {cells′ bodies′ : List ℕ}
       → PartRead text (withRec from (from .at + 5)) inside cells bodies t r mid cells′ bodies′
       → PartRead text from scope cells bodies (bound v t) r mid cells′ (set bodies′ (from .recs) (mid .link))
   unfolding widthOf termOf linkTo sizeOf recsOf cellsIn bodiesIn wrongAt withRec
@@ -248,13 +252,16 @@ module _ {text : List ℕ} {from : Read} {scope : Scope} {cells bodies : List �
         recs-are = omega arith;
         cells-are =
             part .cells-are
-            ∙ ap (λ o. take (1 + from .places) cells ++ map packed (cellsIn o (from .places) (from .recs + 1) (termOf t))) (known .owners-are)
+            ∙ ap (λ o. take (1 + from .places) cells ++ map packed (cellsIn o (from .places) (from .recs + 1) (termOf t)))
+            (known .owners-are)
             ∙ ap (λ (k : ℕ). take (1 + from .places) cells
             ++ map packed (cellsIn (set (scope .owners) v (from .recs)) (from .places) k (termOf t))) next;
         bodies-are =
-            body-put bodies bodies′ _ (from .recs) (mid .recs) (mid .link) (omega (arith, ready .few-recs, ready .bodies-room, ready .inside, ready .short)) (omega arith) (part .bodies-are)
+            body-put bodies bodies′ _ (from .recs) (mid .recs) (mid .link)
+            (omega (arith, ready .few-recs, ready .bodies-room, ready .inside, ready .short)) (omega arith) (part .bodies-are)
             ∙ ap (λ (k : ℕ). take (from .recs) bodies ++ (k ∷ bodiesIn (inside .owners) (from .places) (from .recs + 1) (termOf t))) link
-            ∙ ap (λ l. take (from .recs) bodies ++ (linkTo (set (scope .owners) v (from .recs)) (from .places) (suc (from .recs)) (termOf t) ∷ l))
+            ∙ ap (λ l. take (from .recs) bodies ++
+            (linkTo (set (scope .owners) v (from .recs)) (from .places) (suc (from .recs)) (termOf t) ∷ l))
             (ap (λ o. bodiesIn o (from .places) (from .recs + 1) (termOf t)) (known .owners-are)
             ∙ ap (λ (k : ℕ). bodiesIn (set (scope .owners) v (from .recs)) (from .places) k (termOf t)) next);
         wrong-is =
@@ -310,7 +317,8 @@ choosing =
       wrong-is = λ t u recs prefixed i. refl;
     }
 
-module _ {join : Tree → Tree → Tree} {kind gap : ℕ} (choice : Choice join kind gap) {text : List ℕ} {from : Read} {scope : Scope} {cells bodies : List ℕ}
+module _ {join : Tree → Tree → Tree} {kind gap : ℕ} (choice : Choice join kind gap) {text : List ℕ} {from : Read} {scope : Scope}
+    {cells bodies : List ℕ}
     (ready : Ready text from scope cells bodies) {t : Tree} {r : List ℕ} {mid : Read} {cells′ bodies′ : List ℕ}
     (one : PartRead text from scope cells bodies t r mid cells′ bodies′) {u : Tree} {s : List ℕ} {next : Read} {cells″ bodies″ : List ℕ}
     (two : PartRead text (onward mid (mid .at + gap) 0) scope cells′ bodies′ u s next cells″ bodies″) (some-gap : 1 ≤ gap) where
@@ -332,7 +340,8 @@ module _ {join : Tree → Tree → Tree} {kind gap : ℕ} (choice : Choice join 
         ready .short,
       )
 
-  joined-cell : record { kind = kind; left = mid .link; right = next .link } ≡ choiceCell (scope .owners) (from .places) (from .recs) kind (termOf t) (termOf u)
+  joined-cell : record { kind = kind; left = mid .link; right = next .link }
+      ≡ choiceCell (scope .owners) (from .places) (from .recs) kind (termOf t) (termOf u)
   unfolding onward choiceCell
   joined-cell =
       ap (λ (k : ℕ). record { kind = kind; left = k; right = next .link }) (one .link-is)
@@ -463,7 +472,8 @@ module _ {text : List ℕ} {from : Read} {scope : Scope} {cells bodies : List �
       }
 
   -- behind a part
-  pub ready-on : {t : Tree} {r : List ℕ} {mid : Read} {cells′ bodies′ : List ℕ} → PartRead text from scope cells bodies t r mid cells′ bodies′
+  pub ready-on : {t : Tree} {r : List ℕ} {mid : Read} {cells′ bodies′ : List ℕ}
+      → PartRead text from scope cells bodies t r mid cells′ bodies′
       → (gap : ℕ) → mid .at + gap ≤ length text → Ready text (onward mid (mid .at + gap) 0) scope cells′ bodies′
   unfolding onward
   ready-on {t} part gap k =

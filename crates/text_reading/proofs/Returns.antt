@@ -21,15 +21,18 @@ use Rattle.text_reading.proofs.Parts.{ready-behind, ready-prefixed, rea
 use Rattle.text_reading.proofs.Outcome.{cells-stay, bodies-stay, failing, reading, stopped-at}
 
 -- what was left from a place, for another name of it
-moved : {text : List ℕ} {from f : Read} {scope s : Scope} {cells bodies : List ℕ} {part : Read} {cells′ bodies′ : List ℕ} (g : ℕ → Parse) → from ≡ f
-    → scope ≡ s → ReadAs text from scope cells bodies (g (from .at)) part cells′ bodies′ → ReadAs text f s cells bodies (g (f .at)) part cells′ bodies′
+moved : {text : List ℕ} {from f : Read} {scope s : Scope} {cells bodies : List ℕ} {part : Read} {cells′ bodies′ : List ℕ} (g : ℕ → Parse)
+    → from ≡ f
+    → scope ≡ s → ReadAs text from scope cells bodies (g (from .at)) part cells′ bodies′
+    → ReadAs text f s cells bodies (g (f .at)) part cells′ bodies′
 moved {text} {from} {f} {scope} {s} {cells} {bodies} {part} {cells′} {bodies′} g e i h =
     subst (λ (s : Scope). ReadAs text f s cells bodies (g (f .at)) part cells′ bodies′) i
     (subst (λ (f : Read). ReadAs text f scope cells bodies (g (f .at)) part cells′ bodies′) e h)
 
 -- ---- a part behind others
 
-module _ (mid : Read) (gap : ℕ) {text : List ℕ} {scope : Scope} {cells bodies : List ℕ} {next : Read} (e : next ≡ onward mid (mid .at + gap) 0) where
+module _ (mid : Read) (gap : ℕ) {text : List ℕ} {scope : Scope} {cells bodies : List ℕ} {next : Read}
+    (e : next ≡ onward mid (mid .at + gap) 0) where
   pub next-ready : Ready text (onward mid (mid .at + gap) 0) scope cells bodies → Ready text next scope cells bodies
   next-ready h = subst⁻¹ (λ (f : Read). Ready text f scope cells bodies) e h
 
@@ -55,7 +58,8 @@ pub sent-width : (b : ℕ) → (leb 97 b && leb b 103) ≡ true → actionWidth 
 unfolding actionWidth
 sent-width b e = let l = not-below 97 b 103 e in rw (le-ltb (b - 90) 7 (omega arith)) refl
 
-module _ {text : List ℕ} {from : Read} {scope : Scope} {cells bodies : List ℕ} (ready : Ready text from scope cells bodies) (p q : List ℕ → Parse) where
+module _ {text : List ℕ} {from : Read} {scope : Scope} {cells bodies : List ℕ} (ready : Ready text from scope cells bodies)
+    (p q : List ℕ → Parse) where
   -- ---- behind an action
 
   module _ (at j : ℕ) (behind : at ≡ from .at + actionWidth j) (small : at ≤ length text) {b : ℕ} (byte : b ≡ getD text at 0) where
@@ -77,7 +81,8 @@ module _ {text : List ℕ} {from : Read} {scope : Scope} {cells bodies : List �
           (subst⁻¹ (λ (s : Scope). Ready text (onward from (at + 1) 0) s cells bodies) i
           (ready-prefixed ready (at + 1) (omega arith) (omega arith)))
 
-      module _ {part : Read} {cells′ bodies′ : List ℕ} (h : ReadAs text next inner cells bodies (p (drop (next .at) text)) part cells′ bodies′) where
+      module _ {part : Read} {cells′ bodies′ : List ℕ}
+          (h : ReadAs text next inner cells bodies (p (drop (next .at) text)) part cells′ bodies′) where
         behind-part : ReadAs text (onward from (at + 1) 0) (prefixedScope scope) cells bodies (p (drop (at + 1) text)) part cells′ bodies′
         unfolding onward
         behind-part = moved (λ (k : ℕ). p (drop k text)) e i h
@@ -94,7 +99,8 @@ module _ {text : List ℕ} {from : Read} {scope : Scope} {cells bodies : List �
             → ReadAs text from scope cells bodies (acted p q j (drop at text)) to cells″ bodies′
         behind-reads ok put =
             let w = reading behind-part ok in
-            reads (dotted j (w .0)) (w .1) (acted-dot text at byte p q j dot ∙ then-goes _ (w .2)) (part-dotted ready at j behind small (w .3) put)
+            reads (dotted j (w .0)) (w .1) (acted-dot text at byte p q j dot ∙ then-goes _ (w .2))
+            (part-dotted ready at j behind small (w .3) put)
 
   -- ---- in brackets
 
@@ -103,12 +109,14 @@ module _ {text : List ℕ} {from : Read} {scope : Scope} {cells bodies : List �
     bracket-ready =
         subst⁻¹ (λ (f : Read). Ready text f scope cells bodies) e (ready-behind ready (from .at + 1) (omega arith) (omega arith))
 
-    module _ {part : Read} {cells′ bodies′ : List ℕ} (h : ReadAs text next scope cells bodies (q (drop (next .at) text)) part cells′ bodies′) where
+    module _ {part : Read} {cells′ bodies′ : List ℕ}
+        (h : ReadAs text next scope cells bodies (q (drop (next .at) text)) part cells′ bodies′) where
       bracket-part : ReadAs text (onward from (from .at + 1) 0) scope cells bodies (q (drop (from .at + 1) text)) part cells′ bodies′
       unfolding onward
       bracket-part = moved (λ (k : ℕ). q (drop k text)) e refl h
 
-      pub bracket-none : part .ok ≡ false → ReadAs text from scope cells bodies (bracketed p q (drop (from .at + 1) text)) part cells′ bodies′
+      pub bracket-none : part .ok ≡ false
+          → ReadAs text from scope cells bodies (bracketed p q (drop (from .at + 1) text)) part cells′ bodies′
       bracket-none bad =
           let w = failing bracket-part bad in
           fails (w .0) (bracket-fails p q (drop (from .at + 1) text) (w .1)) (w .2) (cells-stay h) (bodies-stay h)
@@ -131,7 +139,8 @@ module _ {text : List ℕ} {from : Read} {scope : Scope} {cells bodies : List �
               let w = reading bracket-part fine in
               reads (bracket (w .0)) (drop (part .at + 1) text)
               (bracket-ends p q (drop (from .at + 1) text) (w .2) text (part .at) (w .3 .left) byte is)
-              (subst⁻¹ (λ (to : Read). PartRead text from scope cells bodies (bracket (w .0)) (drop (part .at + 1) text) to cells′ bodies′) k
+              (subst⁻¹
+              (λ (to : Read). PartRead text from scope cells bodies (bracket (w .0)) (drop (part .at + 1) text) to cells′ bodies′) k
               (part-bracket ready (w .3) (here text (part .at) byte (omega arith))))
 
   -- ---- in a rec
@@ -161,12 +170,14 @@ module _ {text : List ℕ} {from : Read} {scope : Scope} {cells bodies : List �
           ∙ ap (λ (k : ℕ). andThen (p (drop k text)) (λ t s. parsed (bound (getD text (from .at + 1 + 2) 0 - 88) t) s)) same
           ∙ ap (λ (k : ℕ). andThen (p (drop (from .at + 5) text)) (λ t s. parsed (bound (k - 88) t) s)) rec-byte
 
-      module _ {inner : Scope} (known : InRec scope (b - 88) (from .recs) inner) {next : Read} (e : next ≡ withRec from (from .at + 5)) where
+      module _ {inner : Scope} (known : InRec scope (b - 88) (from .recs) inner) {next : Read}
+          (e : next ≡ withRec from (from .at + 5)) where
         pub rec-ready : Ready text next inner cells bodies
         rec-ready =
             subst⁻¹ (λ (f : Read). Ready text f inner cells bodies) e (ready-rec ready known (omega (arith, head .inside)))
 
-        module _ {part : Read} {cells′ bodies′ : List ℕ} (h : ReadAs text next inner cells bodies (p (drop (next .at) text)) part cells′ bodies′) where
+        module _ {part : Read} {cells′ bodies′ : List ℕ}
+            (h : ReadAs text next inner cells bodies (p (drop (next .at) text)) part cells′ bodies′) where
           rec-part : ReadAs text (withRec from (from .at + 5)) inner cells bodies (p (drop (from .at + 5) text)) part cells′ bodies′
           unfolding withRec
           rec-part = moved (λ (k : ℕ). p (drop k text)) e refl h

@@ -11,7 +11,7 @@ use Rattle.model.specs.Lists.{any, keep}
 use Rattle.model.specs.Contract.{has}
 use Rattle.text.specs.Grammar.{Tree, bound}
 use Rattle.text.specs.Terms.{termOf}
-use Rattle.text.specs.Parser.{Parse, failed, parsed, andThen, expects, leaf, looped, parseOf}
+use Rattle.text.specs.Parser.{Parse, failed, parsed, andThen, expects, leaf, looped, tightAt, sumsOf, wholeOf, parseOf}
 use Rattle.text.specs.Convert.{widthOf, wrongAt, mostDeep}
 use Rattle.text.specs.Cells.{packed, recsOf, linkTo, cellsIn, bodiesIn, noOwners, bodyLinks}
 use Rattle.text.specs.Places.{sizeOf}
@@ -30,6 +30,18 @@ orNone (some i) = i
 -- the first of two such numbers
 unfoldable pub firstOf : ℕ → ℕ → ℕ
 firstOf i other = cond (eqb i 256) other i
+
+-- ---- the definitions, for parts of a text
+
+-- at most as many items in a chain as the text has bytes, and so much depth left
+abbrev pub tightIn : (text : List ℕ) (depth : ℕ) → List ℕ → Parse
+tightIn text depth = tightAt (length text) depth
+
+abbrev pub sumsIn : (text : List ℕ) (depth : ℕ) → List ℕ → Parse
+sumsIn text depth = sumsOf (length text) (tightIn text depth)
+
+abbrev pub wholeIn : (text : List ℕ) (depth : ℕ) → List ℕ → Parse
+wholeIn text depth = wholeOf (length text) (tightIn text depth)
 
 -- ---- single steps
 
@@ -109,7 +121,8 @@ pub record PartRead (text : List ℕ) (from : Read) (scope : Scope) (cells bodie
 -- What the reader leaves for what one of its definitions gives.
 pub data ReadAs (text : List ℕ) (from : Read) (scope : Scope) (cells bodies : List ℕ) (p : Parse) (to : Read) (cells′ bodies′ : List ℕ)
     : Type 0 where
-  fails : (r : List ℕ) → p ≡ failed r → Stopped text r to → length cells′ ≡ 257 → length bodies′ ≡ 64 → ReadAs text from scope cells bodies p to cells′ bodies′
+  fails : (r : List ℕ) → p ≡ failed r → Stopped text r to → length cells′ ≡ 257 → length bodies′ ≡ 64
+      → ReadAs text from scope cells bodies p to cells′ bodies′
   reads : (t : Tree) (r : List ℕ) → p ≡ parsed t r → PartRead text from scope cells bodies t r to cells′ bodies′
       → ReadAs text from scope cells bodies p to cells′ bodies′
 

@@ -7,9 +7,9 @@ ghost use Prim.Native.Nat.{_+_, _≤_, _<_};
 ghost use lib.ListN.{length, getD, take, drop};
 ghost use lib.Dec.{leb};
 ghost use Rattle.text.specs.Grammar.{variable};
-ghost use Rattle.text.specs.Parser.{tightAt, sumsOf, wholeOf, acted, bracketed, looped, expects};
+ghost use Rattle.text.specs.Parser.{acted, bracketed, looped, expects};
 ghost use Rattle.text.specs.Convert.{wrongAt, actionWidth, dropped, placeOfByte};
-ghost use Rattle.text_reading.specs.Reading.{listed, orNone, firstOf, onward, withRec, prefixedScope};
+ghost use Rattle.text_reading.specs.Reading.{tightIn, sumsIn, wholeIn, listed, orNone, firstOf, onward, withRec, prefixedScope};
 ghost use Rattle.text_reading.specs.Reading.{InRec, CellPut, RecHead, Ready, ReadAs, LeafRead, TextRead};
 
 // Where reading stands: whether it can go on; the byte; what leads to the part that was read; how many places and recs were found; and the
@@ -213,7 +213,8 @@ fn read_behind(
 ) -> Read
     requires { ⌜ Ready (now text) from scope (now cells) (now bodies) × (at ≡ from .at + actionWidth action) × (at ≤ length (now text)) ⌝ }
     ensures { λ r. ⌜ ReadAs (now (text .entry)) from scope (now (cells .entry)) (now (bodies .entry))
-        (acted (tightAt (length (now (text .entry))) depth) (wholeOf (length (now (text .entry))) (tightAt (length (now (text .entry))) depth)) action (drop at (now (text .entry)))) r (now (cells .exit)) (now (bodies .exit)) ⌝ }
+        (acted (tightIn (now (text .entry)) depth) (wholeIn (now (text .entry)) depth) action (drop at (now (text .entry))))
+        r (now (cells .exit)) (now (bodies .exit)) ⌝ }
 {
     let here = onwards(from, at, 0);
     if byte_at(text, at) != 46 {
@@ -244,7 +245,8 @@ fn read_bracket(
 ) -> Read
     requires { ⌜ Ready (now text) from scope (now cells) (now bodies) × (from .at < length (now text)) ⌝ }
     ensures { λ r. ⌜ ReadAs (now (text .entry)) from scope (now (cells .entry)) (now (bodies .entry))
-        (bracketed (tightAt (length (now (text .entry))) depth) (wholeOf (length (now (text .entry))) (tightAt (length (now (text .entry))) depth)) (drop (from .at + 1) (now (text .entry)))) r (now (cells .exit)) (now (bodies .exit)) ⌝ }
+        (bracketed (tightIn (now (text .entry)) depth) (wholeIn (now (text .entry)) depth) (drop (from .at + 1) (now (text .entry))))
+        r (now (cells .exit)) (now (bodies .exit)) ⌝ }
 {
     let part = read_whole(
         text,
@@ -274,7 +276,9 @@ fn read_rec(
 ) -> Read
     requires { ⌜ Ready (now text) from scope (now cells) (now bodies) × (from .at < length (now text)) ⌝ }
     ensures { λ r. ⌜ ReadAs (now (text .entry)) from scope (now (cells .entry)) (now (bodies .entry))
-        (expects (101 ∷ 99 ∷ []) (looped (tightAt (length (now (text .entry))) depth) (wholeOf (length (now (text .entry))) (tightAt (length (now (text .entry))) depth))) (drop (from .at + 1) (now (text .entry)))) r (now (cells .exit)) (now (bodies .exit)) ⌝ }
+        (expects (101 ∷ 99 ∷ []) (looped (tightIn (now (text .entry)) depth) (wholeIn (now (text .entry)) depth))
+        (drop (from .at + 1) (now (text .entry))))
+        r (now (cells .exit)) (now (bodies .exit)) ⌝ }
 {
     let head = rec_head(text, from.at + 1);
     if head < 4 {
@@ -309,39 +313,23 @@ fn read_tight(
 ) -> Read
     requires { ⌜ Ready (now text) from scope (now cells) (now bodies) ⌝ }
     ensures { λ r. ⌜ ReadAs (now (text .entry)) from scope (now (cells .entry)) (now (bodies .entry))
-        (tightAt (length (now (text .entry))) depth (drop (from .at) (now (text .entry)))) r (now (cells .exit)) (now (bodies .exit)) ⌝ }
+        (tightIn (now (text .entry)) depth (drop (from .at) (now (text .entry))))
+        r (now (cells .exit)) (now (bodies .exit)) ⌝ }
 {
     if depth == 0 {
         return read_leaf(text, from, scope);
     }
-    let b = byte_at(text, from.at);
+    let at = from.at;
+    let b = byte_at(text, at);
     if within(b, 97, 103) {
-        return read_behind(
-            text,
-            from,
-            from.at + 1,
-            depth - 1,
-            scope,
-            b - 97,
-            cells,
-            bodies,
-        );
+        return read_behind(text, from, at + 1, depth - 1, scope, b - 97, cells, bodies);
     }
     if b == 33 {
-        let sent = byte_at(text, from.at + 1);
-        if !within(sent, 97, 103) {
-            return stopped(from.at + 1);
+        let c = byte_at(text, at + 1);
+        if !within(c, 97, 103) {
+            return stopped(at + 1);
         }
-        return read_behind(
-            text,
-            from,
-            from.at + 2,
-            depth - 1,
-            scope,
-            sent - 90,
-            cells,
-            bodies,
-        );
+        return read_behind(text, from, at + 2, depth - 1, scope, c - 90, cells, bodies);
     }
     if b == 40 {
         return read_bracket(text, from, depth - 1, scope, cells, bodies);
@@ -363,7 +351,8 @@ fn read_sums(
 ) -> Read
     requires { ⌜ Ready (now text) from scope (now cells) (now bodies) ⌝ }
     ensures { λ r. ⌜ ReadAs (now (text .entry)) from scope (now (cells .entry)) (now (bodies .entry))
-        (sumsOf (length (now (text .entry))) (tightAt (length (now (text .entry))) depth) (drop (from .at) (now (text .entry)))) r (now (cells .exit)) (now (bodies .exit)) ⌝ }
+        (sumsIn (now (text .entry)) depth (drop (from .at) (now (text .entry))))
+        r (now (cells .exit)) (now (bodies .exit)) ⌝ }
 {
     let mut part = read_tight(text, from, depth, scope, cells, bodies);
     if !part.ok {
@@ -397,7 +386,8 @@ fn read_whole(
 ) -> Read
     requires { ⌜ Ready (now text) from scope (now cells) (now bodies) ⌝ }
     ensures { λ r. ⌜ ReadAs (now (text .entry)) from scope (now (cells .entry)) (now (bodies .entry))
-        (wholeOf (length (now (text .entry))) (tightAt (length (now (text .entry))) depth) (drop (from .at) (now (text .entry)))) r (now (cells .exit)) (now (bodies .exit)) ⌝ }
+        (wholeIn (now (text .entry)) depth (drop (from .at) (now (text .entry))))
+        r (now (cells .exit)) (now (bodies .exit)) ⌝ }
 {
     let mut part = read_sums(text, from, depth, scope, cells, bodies);
     if !part.ok {
@@ -429,7 +419,8 @@ fn read_whole(
 // A byte put behind the others unless it is a blank, and how many there are then.
 fn keep_byte(out: &mut [u8], count: usize, b: u8) -> usize
     requires { ⌜ count < length (now out) ⌝ }
-    ensures { λ r. ⌜ (take r (now (out .exit)) ≡ take count (now (out .entry)) ++ dropped (b ∷ [])) × (r ≡ count + length (dropped (b ∷ []))) ⌝ }
+    ensures { λ r. ⌜ (take r (now (out .exit)) ≡ take count (now (out .entry)) ++ dropped (b ∷ []))
+        × (r ≡ count + length (dropped (b ∷ []))) ⌝ }
 {
     if b == 32 {
         return count;
@@ -475,7 +466,8 @@ pub fn place_of_byte(text: &[u8], i: usize) -> usize
 // A text without blanks, read into cells and bodies of recs, at most 16 deep.
 pub fn read_text(text: &[u8], cells: &mut [u32], bodies: &mut [u16]) -> Read
     requires { ⌜ (length (now text) ≤ 256) × (length (now cells) ≡ 257) × (length (now bodies) ≡ 64) ⌝ }
-    ensures { λ r. ⌜ TextRead (now (text .entry)) (now (cells .entry)) r (now (cells .exit)) (now (bodies .exit)) ⌝ }
+    ensures { λ r. ⌜ TextRead (now (text .entry)) (now (cells .entry))
+        r (now (cells .exit)) (now (bodies .exit)) ⌝ }
 {
     let from = Read {
         ok: true,

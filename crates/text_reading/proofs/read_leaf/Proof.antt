@@ -73,7 +73,8 @@ returns-3 c =
     let read = ask .before .before in
     let a = read .before .before .args in
     let q = sym (ask .within .ensures) ∙ not-false (ask .within .result) (c .before .before .before .before .if2 .left) in
-    variable-read (a .text .now) (a .from) (a .scope) (read .byte-at .ensures) (ask .before .if1 .left) q (c .before .before .to-body .result) (c .judged .result)
+    variable-read (a .text .now) (a .from) (a .scope) (read .byte-at .ensures) (ask .before .if1 .left) q
+    (c .before .before .to-body .result) (c .judged .result)
     (c .before .before .to-body .ensures)
     (c .judged .ensures)
 

@@ -32,7 +32,8 @@ same-length-4 c = search needs
 returns-2 : tie.Need-returns-2
 returns-2 c =
     let read = c .before .before .before .before .before .before .before .before .before in
-    text-goes-on (read .read-whole .ensures) (not-false (read .read-whole .result .ok) (c .before .before .before .if1 .left)) (c .before .if2 .taken)
+    text-goes-on (read .read-whole .ensures) (not-false (read .read-whole .result .ok) (c .before .before .before .if1 .left))
+    (c .before .if2 .taken)
     (c .stopped .ensures)
 
 same-length-5 : tie.Need-same-length-5

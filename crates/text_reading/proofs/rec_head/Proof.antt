@@ -43,7 +43,8 @@ returns-3 c =
     let one = two .before .before in
     let start = one .before .before .before in
     head-two (start .args .text .now) (start .args .at) (one .before .byte-at .ensures) (one .if1 .left) (two .before .byte-at2 .ensures)
-    (two .if2 .left) (c .before .before .byte-at3 .ensures) (sym (c .before .within .ensures) ∙ not-true (c .before .within .result) (c .if3 .taken))
+    (two .if2 .left) (c .before .before .byte-at3 .ensures)
+    (sym (c .before .within .ensures) ∙ not-true (c .before .within .result) (c .if3 .taken))
 
 add-byte-at-3 : tie.Need-add-byte-at-3
 add-byte-at-3 c = search needs
@@ -58,7 +59,8 @@ returns-4 c =
     let one = two .before .before in
     let start = one .before .before .before in
     head-three (start .args .text .now) (start .args .at) (one .before .byte-at .ensures) (one .if1 .left) (two .before .byte-at2 .ensures)
-    (two .if2 .left) (three .before .before .byte-at3 .ensures) (sym (three .before .within .ensures) ∙ not-false (three .before .within .result) (three .if3 .left))
+    (two .if2 .left) (three .before .before .byte-at3 .ensures)
+    (sym (three .before .within .ensures) ∙ not-false (three .before .within .result) (three .if3 .left))
     (c .before .byte-at4 .ensures) (c .if4 .taken)
 
 returns-5 : tie.Need-returns-5
@@ -68,7 +70,8 @@ returns-5 c =
     let one = two .before .before in
     let start = one .before .before .before in
     head-whole (start .args .text .now) (start .args .at) (one .before .byte-at .ensures) (one .if1 .left) (two .before .byte-at2 .ensures)
-    (two .if2 .left) (three .before .before .byte-at3 .ensures) (sym (three .before .within .ensures) ∙ not-false (three .before .within .result) (three .if3 .left))
+    (two .if2 .left) (three .before .before .byte-at3 .ensures)
+    (sym (three .before .within .ensures) ∙ not-false (three .before .within .result) (three .if3 .left))
     (c .before .byte-at4 .ensures) (c .if4 .left)
 
 pub rec-head-spec : {M : Type 1} → statement M
