@@ -1,0 +1,12 @@
+pub mod Bytes
+pub mod Steps
+pub mod Masks
+pub mod Head
+pub mod Bounds
+pub mod Parts
+pub mod Outcome
+pub mod Leaves
+pub mod Chains
+pub mod Returns
+pub mod Stripping
+pub mod Whole
