@@ -19,7 +19,7 @@ use Rattle.place_sets.specs.PlaceSets.{numberOf}
 use Rattle.text.specs.Places.{Sense}
 use Rattle.text.specs.Cells.{Ends, at-end, at-prefix, at-choice, at-variable, Explained, cellAt, unpacked, placeOf}
 use Rattle.text.specs.Steps.{stepOf}
-use Rattle.text.proofs.Ends.{body-ends}
+use Rattle.text.proofs.Ends.{to-body}
 use Rattle.text_places.specs.Wanted.{Known, Wanting}
 
 -- ---- where a link leads
@@ -42,8 +42,7 @@ module _ (cells bodies : List ℕ) where
   pub link-leads : {b link : ℕ} → Ends cells bodies b link → 256 ≤ link
       → (link < 256 + length bodies) × (getD bodies (link - 256) 0 < 256)
   link-leads {b} {link} e h =
-      let same : link ≡ 256 + (link - 256) = omega arith in
-      let y = body-ends cells bodies (subst (Ends cells bodies b) same e) in
+      let y = to-body cells bodies b (link - 256) e (omega arith) in
       (omega (arith, y .inside), y .place)
 
   -- a place that ends has a cell
@@ -63,8 +62,7 @@ module _ (cells bodies : List ℕ) where
           subst⁻¹ (λ (x : ℕ). x < length cells) (place-itself cells bodies link h) (place-has e h some)
       go false d =
           let h = ltb-false link 256 d in
-          let same : link ≡ 256 + (link - 256) = omega arith in
-          let y = body-ends cells bodies (subst (Ends cells bodies b) same e) in
+          let y = to-body cells bodies b (link - 256) e (omega arith) in
           subst⁻¹ (λ (x : ℕ). x < length cells) (place-body cells bodies link h) (place-has (y .ends) (y .place) some)
 
   -- what a prefix leads to can be followed, by the numbers of its cell
