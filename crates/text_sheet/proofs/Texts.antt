@@ -2,15 +2,15 @@
 -- fault.
 -- Assumes nothing.
 use mathlib.Core.Path.{_≡_, refl, sym, ap, subst, subst⁻¹, _∙_}
-use mathlib.Core.Bool.{not}
+use mathlib.Core.Bool.{Bool, true, false, not, true≢false}
 use mathlib.Core.Logic.{inl, inr}
 use mathlib.Core.List.{List, []}
 use mathlib.Core.Option.{Option, none, some, Option·elim}
 use Prim.Native.Nat.{ℕ, _-_, _^_, _≤_, _<_}
 use native.Mathlib.Omega.{arith}
 use lib.ListN.{length}
-use lib.Dec.{leb}
-use borrow.Author.Tests.{le-leb, lt-leb}
+use lib.Dec.{ltb, leb}
+use borrow.Author.Tests.{le-leb, lt-leb, ltb-true, ltb-false}
 use Rattle.model.specs.Sheet.{good, check, then, plain}
 use Rattle.model.proofs.Lists.{keep-length}
 use Rattle.nodes.specs.Answer.{written, writtenBy}
@@ -19,16 +19,23 @@ use Rattle.nodes.specs.declared.SheetAnswer.{SheetAnswer}
 use Rattle.nodes.proofs.Answering.{refusing}
 use Rattle.text.specs.Grammar.{Tree, whole, Text}
 use Rattle.text.specs.Terms.{termOf, Faulty}
-use Rattle.text.specs.Parser.{failed, parsed, parseOf}
+use Rattle.text.specs.Parser.{Parse, failed, parsed, parseOf}
 use Rattle.text.specs.Places.{sizeOf, placesOf, firstPlace, readySets, nextPlaces, contractOfTerm}
 use Rattle.text.specs.Convert.{isBlank, dropped, placeOfByte, wrongAt, mostDeep, boundTree, treeRead, readText, withoutByte, byteAtFault, textOf, textSheet, textInto, textFaultOf}
 use Rattle.text.specs.Cells.{recsOf, linkTo, noOwners, cellNumbers, bodyLinks, placeOf, Ends, Explained}
+use Rattle.text_reading.specs.Reading.{orNone, WholeRead, TextRead}
+use Rattle.text_reading.specs.declared.Read.{Read}
 use Rattle.text.proofs.Parse.{sound, read}
-use Rattle.text.proofs.Variables.{none-wrong}
+use Rattle.text.proofs.Variables.{none-wrong, letter}
+use Rattle.text.proofs.Blanks.{place-inside, place-beyond}
 use Rattle.text.proofs.Widths.{few-places}
 use Rattle.text.proofs.Derived.{names-below, actions-below, few-recs}
 use Rattle.text.proofs.Substitution.{closed}
 use Rattle.text.proofs.Explained.{explained, first-link, first-ends}
+
+pub long-fault : (s : List ℕ) → 256 < length s → 0 ≡ textFaultOf s
+unfolding textFaultOf readText byteAtFault check
+long-fault s h = rw (lt-leb (length s) 256 h) refl
 
 module _ (s out : List ℕ) where
   -- 1, with sheet 1
@@ -36,10 +43,6 @@ module _ (s out : List ℕ) where
       → writtenBy r out ≡ textInto s out
   unfolding writtenBy textInto textSheet textOf readText withoutByte written then check plain
   long-answer h e = rw (e, lt-leb (length s) 256 h) refl
-
-  pub long-fault : 256 < length s → 0 ≡ textFaultOf s
-  unfolding textFaultOf readText byteAtFault check
-  long-fault h = rw (lt-leb (length s) 256 h) refl
 
   module _ (short : length s ≤ 256) where
     -- 22
@@ -78,7 +81,7 @@ read-derived : (s : List ℕ) {t : Tree} {x : List ℕ} → parseOf 16 (dropped 
 read-derived s {t} {x} is = sound 16 (dropped s) t (read 16 (dropped s) x t is) .0
 
 -- blanks dropped, a text is not longer
-dropped-short : (s : List ℕ) → length s ≤ 256 → length (dropped s) ≤ 256
+pub dropped-short : (s : List ℕ) → length s ≤ 256 → length (dropped s) ≤ 256
 unfolding dropped
 dropped-short s h = omega (arith, h, keep-length (λ b. not (isBlank b)) s)
 
@@ -108,3 +111,74 @@ module _ (s : List ℕ) (short : length s ≤ 256) {t : Tree} {x : List ℕ} (is
   first-followed =
       let w = right-sound t right in
       first-ends (termOf t) (w .0) (w .1) (actions-below (read-derived s is)) (names-below (read-derived s is)) few-cells few-bodies
+
+-- ---- what the reader's answer says
+
+-- a place in the text is not behind its end
+pub place-most : (s : List ℕ) (i : ℕ) → placeOfByte s i ≤ length s
+place-most s i = go (ltb i (length (dropped s))) refl
+  where
+    go : (b : Bool) → ltb i (length (dropped s)) ≡ b → placeOfByte s i ≤ length s
+    go true e = omega (arith, place-inside s i (ltb-true i (length (dropped s)) e))
+    go false e = omega (arith, place-beyond s i (ltb-false i (length (dropped s)) e))
+
+module _ (s : List ℕ) (short : length s ≤ 256) {cells : List ℕ} {r : Read} {cells′ bodies′ : List ℕ} (was : TextRead (dropped s) cells r cells′ bodies′) where
+  -- no text
+  pub read-stopped : r .ok ≡ false → (x : List ℕ) × (parseOf 16 (dropped s) ≡ failed x) × (r .at ≡ length (dropped s) - length x)
+  unfolding mostDeep
+  read-stopped not-ok = go (parseOf 16 (dropped s)) refl
+    where
+      go : (p : Parse) → parseOf 16 (dropped s) ≡ p → (x : List ℕ) × (parseOf 16 (dropped s) ≡ failed x) × (r .at ≡ length (dropped s) - length x)
+      go (failed x) e = (x, e, was .unread x e .1)
+      go (parsed t x) e = absurd (true≢false (sym (was .read t x e .is-ok) ∙ not-ok))
+
+  -- a text
+  pub read-whole : r .ok ≡ true → (t : Tree) × (x : List ℕ) × (parseOf 16 (dropped s) ≡ parsed t x) × WholeRead cells t x r cells′ bodies′
+  unfolding mostDeep
+  read-whole is = go (parseOf 16 (dropped s)) refl
+    where
+      go : (p : Parse) → parseOf 16 (dropped s) ≡ p
+          → (t : Tree) × (x : List ℕ) × (parseOf 16 (dropped s) ≡ parsed t x) × WholeRead cells t x r cells′ bodies′
+      go (failed x) e = absurd (true≢false (sym is ∙ was .unread x e .0))
+      go (parsed t x) e = (t, x, e, was .read t x e)
+
+  -- a variable at fault, or none: the number says which
+  pub read-wrong : r .ok ≡ true → (r .wrong ≡ 256 → ⊥)
+      → (t : Tree) × (x : List ℕ) × (parseOf 16 (dropped s) ≡ parsed t x) × (wrongAt [] [] 0 t ≡ some (r .wrong))
+  unfolding orNone
+  read-wrong is-ok wrong =
+      let w = read-whole is-ok in
+      (w .0, w .1, w .2, go (wrongAt [] [] 0 (w .0)) refl (w .3 .wrong-is))
+    where
+      go : (o : Option ℕ) {q : Option ℕ} → q ≡ o → r .wrong ≡ orNone q → q ≡ some (r .wrong)
+      go none e is = absurd (wrong (is ∙ ap orNone e))
+      go (some i) e is = e ∙ ap some (sym (is ∙ ap orNone e))
+
+  pub read-right : r .ok ≡ true → r .wrong ≡ 256
+      → (t : Tree) × (x : List ℕ) × (parseOf 16 (dropped s) ≡ parsed t x) × (wrongAt [] [] 0 t ≡ none) × WholeRead cells t x r cells′ bodies′
+  unfolding orNone
+  read-right is-ok right =
+      let w = read-whole is-ok in
+      (w .0, w .1, w .2, go (w .0) (w .1) (w .2) (wrongAt [] [] 0 (w .0)) refl (w .3 .wrong-is), w .3)
+    where
+      go : (t : Tree) (x : List ℕ) → parseOf 16 (dropped s) ≡ parsed t x → (o : Option ℕ) → wrongAt [] [] 0 t ≡ o
+          → r .wrong ≡ orNone (wrongAt [] [] 0 t) → wrongAt [] [] 0 t ≡ none
+      go t x is none e w = e
+      go t x is (some i) e w =
+          let k = letter whole t (dropped s) i (read-derived s is) e in
+          absurd (omega (arith, k .2, dropped-short s short, sym right ∙ w ∙ ap orNone e))
+
+  -- the byte at fault
+  pub fault-stopped : r .ok ≡ false → placeOfByte s (r .at) ≡ textFaultOf s
+  fault-stopped not-ok = let w = read-stopped not-ok in ap (placeOfByte s) (w .2) ∙ stopped-fault s s short (w .1)
+
+  pub fault-wrong : r .ok ≡ true → (r .wrong ≡ 256 → ⊥) → placeOfByte s (r .wrong) ≡ textFaultOf s
+  fault-wrong is-ok wrong = let w = read-wrong is-ok wrong in wrong-fault s s short (w .2) (w .3)
+
+  pub fault-none : r .ok ≡ true → r .wrong ≡ 256 → 0 ≡ textFaultOf s
+  fault-none is-ok right = let w = read-right is-ok right in right-fault s s short (w .2) (w .3)
+
+-- what is left for a text is left for an equal one
+pub text-read-is : {x y cells : List ℕ} {r : Read} {cells′ bodies′ : List ℕ} → x ≡ y → TextRead x cells r cells′ bodies′
+    → TextRead y cells r cells′ bodies′
+text-read-is {cells = cells} {r = r} {cells′ = cells′} {bodies′ = bodies′} e was = subst (λ (z : List ℕ). TextRead z cells r cells′ bodies′) e was

@@ -1,9 +1,9 @@
 // Contracts typed as text, converted into ordinary sheets: the entry points. Request 7/13, "Contracts typed as text".
 ghost use mathlib.Core.Path.{_≡_};
-ghost use Rattle.nodes.specs.Answer.{writtenBy};
-ghost use Rattle.text.specs.Convert.{textInto, textFaultOf};
-use nodes::SheetAnswer;
-use nodes::found::refused;
+ghost use Prim.Native.Nat.{_≤_};
+ghost use lib.ListN.{length};
+ghost use Rattle.text.specs.Convert.{dropped, textFaultOf};
+ghost use Rattle.text_reading.specs.Reading.{TextRead};
 use text_reading::Read;
 
 // "256 bytes in all".
@@ -15,50 +15,17 @@ const NONE: u16 = 256;
 // Cells at most: that of the end, and one for each byte.
 const CELLS: usize = 257;
 
-// Recs at most: five bytes each.
+// Recs at most; each has five bytes.
 const RECS: usize = 64;
 
-// The sheet of the states that cells give, at the front of the lent output, or refusal 19, 20 or 13.
-fn convert_cells(cells: &[u32], bodies: &[u16], first: u8, sheet: &mut [u8]) -> SheetAnswer
-{
-    let mut sizes = [0u8; 256];
-    let mut masks = [0u16; 2048];
-    let mut prefixes = [0u64; 1024];
-    text_places::fill_places(cells, bodies, first, &mut sizes, &mut masks, &mut prefixes);
-    let mut counts = [0u8; 64];
-    let mut ready = [0u16; 512];
-    let mut next = [0u8; 896];
-    let known = text_states::find(cells, bodies, first, &sizes, &masks, &prefixes, &mut counts, &mut ready, &mut next);
-    nodes::found::write_found(&counts, &ready, &next, known, 7, sheet)
-}
-
 // A text of at most 256 bytes read into cells, blanks dropped.
-fn read_text(text: &[u8], cells: &mut [u32], bodies: &mut [u16]) -> Read
+fn read_cells(text: &[u8], cells: &mut [u32], bodies: &mut [u16]) -> Read
+    requires { ⌜ (length (now text) ≤ 256) × (length (now cells) ≡ 257) × (length (now bodies) ≡ 64) ⌝ }
+    ensures { λ r. ⌜ TextRead (dropped (now (text .entry))) (now (cells .entry)) r (now (cells .exit)) (now (bodies .exit)) ⌝ }
 {
     let mut bytes = [0u8; LONGEST];
     let count = text_reading::strip(text, &mut bytes);
-    text_reading::read(&bytes[..count], cells, bodies)
-}
-
-// The ordinary sheet that means what a text says, at the front of the lent output: its length, or refusal 1, 22, 23, 19, 20 or 13, which
-// leaves the output untouched.
-pub fn from_text(text: &[u8], sheet: &mut [u8]) -> SheetAnswer
-    ensures outcome { λ r. ⌜ writtenBy r (now (sheet .exit)) ≡ textInto (now (text .entry)) (now (sheet .entry)) ⌝ }
-{
-    if LONGEST < text.len() {
-        return too_long();
-    }
-    let mut cells = [0u32; CELLS];
-    let mut bodies = [0u16; RECS];
-    let read = read_text(text, &mut cells, &mut bodies);
-    if !read.ok {
-        return refused(22);
-    }
-    if read.wrong != NONE {
-        return refused(23);
-    }
-    let first = text_places::place_of(&bodies, read.link);
-    convert_cells(&cells[..read.places + 1], &bodies[..read.recs], first, sheet)
+    text_reading::read_text(&bytes[..count], cells, bodies)
 }
 
 // For a text that is refused as 22 the byte, blanks counted, at which no derivation can go on; for 23 the first variable at fault; else 0.
@@ -70,7 +37,7 @@ pub fn text_fault(text: &[u8]) -> u16
     }
     let mut cells = [0u32; CELLS];
     let mut bodies = [0u16; RECS];
-    let read = read_text(text, &mut cells, &mut bodies);
+    let read = read_cells(text, &mut cells, &mut bodies);
     if !read.ok {
         return text_reading::place_of_byte(text, read.at) as u16;
     }
