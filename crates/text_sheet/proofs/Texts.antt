@@ -4,11 +4,11 @@
 use mathlib.Core.Path.{_≡_, refl, sym, ap, subst, subst⁻¹, _∙_}
 use mathlib.Core.Bool.{Bool, true, false, not, true≢false}
 use mathlib.Core.Logic.{inl, inr}
-use mathlib.Core.List.{List, []}
+use mathlib.Core.List.{List, [], _∷_, map}
 use mathlib.Core.Option.{Option, none, some, Option·elim}
-use Prim.Native.Nat.{ℕ, _-_, _^_, _≤_, _<_}
+use Prim.Native.Nat.{ℕ, _+_, _-_, _^_, _≤_, _<_}
 use native.Mathlib.Omega.{arith}
-use lib.ListN.{length}
+use lib.ListN.{length, getD, take}
 use lib.Dec.{ltb, leb}
 use borrow.Author.Tests.{le-leb, lt-leb, ltb-true, ltb-false}
 use Rattle.model.specs.Sheet.{good, check, then, plain}
@@ -22,7 +22,7 @@ use Rattle.text.specs.Terms.{termOf, Faulty}
 use Rattle.text.specs.Parser.{Parse, failed, parsed, parseOf}
 use Rattle.text.specs.Places.{sizeOf, placesOf, firstPlace, readySets, nextPlaces, contractOfTerm}
 use Rattle.text.specs.Convert.{isBlank, dropped, placeOfByte, wrongAt, mostDeep, boundTree, treeRead, readText, withoutByte, byteAtFault, textOf, textSheet, textInto, textFaultOf}
-use Rattle.text.specs.Cells.{recsOf, linkTo, noOwners, cellNumbers, bodyLinks, placeOf, Ends, Explained}
+use Rattle.text.specs.Cells.{packed, cellsIn, recsOf, linkTo, noOwners, cellNumbers, bodyLinks, placeOf, Ends, Explained}
 use Rattle.text_reading.specs.Reading.{orNone, WholeRead, TextRead}
 use Rattle.text_reading.specs.declared.Read.{Read}
 use Rattle.text.proofs.Parse.{sound, read}
@@ -167,6 +167,42 @@ module _ (s : List ℕ) (short : length s ≤ 256) {cells : List ℕ} {r : Read}
       go t x is (some i) e w =
           let k = letter whole t (dropped s) i (read-derived s is) e in
           absurd (omega (arith, k .2, dropped-short s short, sym right ∙ w ∙ ap orNone e))
+
+  -- answers
+  pub stopped-is : (out : List ℕ) → r .ok ≡ false → {a : SheetAnswer} → a ≡ refusing 22 → writtenBy a out ≡ textInto s out
+  stopped-is out not-ok e = stopped-answer s out short (read-stopped not-ok .1) e
+
+  pub wrong-is-answer : (out : List ℕ) → r .ok ≡ true → (r .wrong ≡ 256 → ⊥) → {a : SheetAnswer} → a ≡ refusing 23 → writtenBy a out ≡ textInto s out
+  wrong-is-answer out is-ok wrong e = let w = read-wrong is-ok wrong in wrong-answer s out short (w .2) (w .3) e
+
+  -- of a text with no variable at fault, the cells and what leads to the first place
+  pub record RightCells (t : Tree) : Type 0 where
+    pub fits : (r .places ≤ 255) × (r .recs ≤ 51)
+    pub explained-by : Explained (take (1 + r .places) cells′) (take (r .recs) bodies′) (placesOf (termOf t))
+    pub first-place : placeOf [] (take (r .recs) bodies′) (r .link) ≡ firstPlace (termOf t)
+    pub first-ends-at : Ends (take (1 + r .places) cells′) (take (r .recs) bodies′) (length (take (r .recs) bodies′)) (r .link)
+    pub right-is : (out : List ℕ)
+        → foundInto (nextPlaces (placesOf (termOf t))) (readySets (placesOf (termOf t))) (2 ^ firstPlace (termOf t)) 7 out ≡ textInto s out
+
+  pub right-cells : r .ok ≡ true → r .wrong ≡ 256 → getD cells 0 0 ≡ 0 → (t : Tree) × RightCells t
+  unfolding cellNumbers placeOf
+  right-cells is-ok right zero-first =
+      let w = read-right is-ok right in
+      let k = w .4 in
+      let cells-same : take (1 + r .places) cells′ ≡ cellNumbers (termOf (w .0)) =
+      k .cells-are ∙ ap (λ (x : ℕ). x ∷ map packed (cellsIn noOwners 0 0 (termOf (w .0)))) zero-first in (
+        w .0,
+        record {
+          fits = (
+            subst⁻¹ (λ (n : ℕ). n ≤ 255) (k .places-are) (few-cells s short (w .2) (w .3)),
+            subst⁻¹ (λ (n : ℕ). n ≤ 51) (k .recs-are) (few-bodies s short (w .2) (w .3)),
+          );
+          explained-by = rw (cells-same, k .bodies-are) (cells-explained s short (w .2) (w .3));
+          first-place = rw (k .bodies-are, k .link-is) (first-is s short (w .2) (w .3));
+          first-ends-at = rw (cells-same, k .bodies-are, k .link-is) (first-followed s short (w .2) (w .3));
+          right-is = λ out. right-answer s out short (w .2) (w .3);
+        },
+      )
 
   -- the byte at fault
   pub fault-stopped : r .ok ≡ false → placeOfByte s (r .at) ≡ textFaultOf s
