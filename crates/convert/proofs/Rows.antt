@@ -2,7 +2,7 @@
 -- Assumes nothing.
 use Prim.Native.Nat.{ℕ}
 use lib.ListN.{length-replicate}
-use Rattle.choosing_rows.proofs.BlankRows.{zeros, zeros-blank}
+use Rattle.nodes.proofs.Blank.{zeros, zeros-blank}
 use Rattle.convert.specs.Sets.{NoStates}
 
 pub blank-tables : NoStates (zeros 64) (zeros 256) (zeros 64) (zeros 512) (zeros 896)

@@ -1,20 +1,20 @@
 -- What numbers say of a family, one by one: which masks they have, all of them 0 but the first, united with others, copied, compared.
 -- Assumes nothing.
-use mathlib.Core.Path.{_≡_, refl, sym, subst, _∙_}
-use mathlib.Core.Bool.{_||_}
+use mathlib.Core.Path.{_≡_, refl, sym, ap, subst, _∙_}
+use mathlib.Core.Bool.{Bool, true, false, _||_}
 use mathlib.Core.Logic.{⊎-elim}
 use mathlib.Core.List.{List}
-use Prim.Native.Nat.{ℕ, zero, suc, _+_, _*_, _-_, _/_, _%_, _≤_, _<_}
+use Prim.Native.Nat.{ℕ, zero, suc, _+_, _*_, _-_, _/_, _%_, _^_, _≤_, _<_}
 use native.Mathlib.Omega.{arith}
 use native.Mathlib.Nat.{eq-or-lt-of-le}
 use lib.ListN.{length, getD, set, length-set}
 use lib.Seq.{getD-set-same, getD-set-other, ext-getD}
 use lib.Dec.{eqb}
 use lib.Bits.{bitOr}
-use borrow.Author.Tests.{ne-eqb}
+use borrow.Author.Tests.{eq-eqb, ne-eqb, eqb-true, eqb-false}
 use Rattle.model.specs.Contract.{has}
 use Rattle.model.proofs.Bits.{has-or}
-use Rattle.model.proofs.Masks.{has-none, has-zero, has-suc}
+use Rattle.model.proofs.Masks.{has-none, has-zero, has-suc, has-more}
 use Rattle.families.specs.Families.{inFamily}
 use Rattle.families.proofs.Replacing.{Replaced}
 
@@ -50,6 +50,40 @@ empty-only {l} {now} {w} long r end = (
     later m h k =
         rw (getD-set-other now 0 (m / 64) 1 0 (λ e. omega arith), r .done (m / 64) (omega arith) (omega arith))
         (has-none (m % 64) ∙ sym (ne-eqb m 0 (λ e. omega arith)))
+
+-- ---- one mask more
+
+or-false : (t : Bool) → (t || false) ≡ t
+or-false true = refl
+or-false false = refl
+
+pub one-more : (l : List ℕ) (mask : ℕ) → length l ≡ 256 → mask < 16384 → {b : ℕ} → b ≡ 2 ^ (mask % 64) → (m : ℕ) → m < 16384
+    → inFamily (set l (mask / 64) (bitOr (getD l (mask / 64) 0) b)) m ≡ (inFamily l m || eqb m mask)
+unfolding inFamily
+one-more l mask long small {b} bit m h = go (eqb (m / 64) (mask / 64)) refl
+  where
+    places : m / 64 ≡ mask / 64 → (t : Bool) → eqb (m % 64) (mask % 64) ≡ t → eqb m mask ≡ t
+    places e true d = eq-eqb m mask (omega (arith, e, eqb-true (m % 64) (mask % 64) d))
+    places e false d = ne-eqb m mask (λ f. eqb-false (m % 64) (mask % 64) d (omega (arith, f)))
+
+    go : (t : Bool) → eqb (m / 64) (mask / 64) ≡ t
+        → has (getD (set l (mask / 64) (bitOr (getD l (mask / 64) 0) b)) (m / 64) 0) (m % 64)
+        ≡ (has (getD l (m / 64) 0) (m % 64) || eqb m mask)
+    go true e =
+        let same = eqb-true (m / 64) (mask / 64) e in
+        rw (
+          same,
+          getD-set-same l (mask / 64) (bitOr (getD l (mask / 64) 0) b) 0 (omega arith),
+          places same (eqb (m % 64) (mask % 64)) refl,
+        )
+        (has-more (getD l (mask / 64) 0) (mask % 64) bit (m % 64))
+    go false e =
+        let ne = eqb-false (m / 64) (mask / 64) e in
+        rw (
+          getD-set-other l (mask / 64) (m / 64) (bitOr (getD l (mask / 64) 0) b) 0 ne,
+          ne-eqb m mask (λ f. ne (ap (λ (n : ℕ). n / 64) f)),
+        )
+        (sym (or-false (has (getD l (m / 64) 0) (m % 64))))
 
 -- ---- two families
 

@@ -31,6 +31,16 @@ pub fn only_empty(family: &mut [u64])
     family[0] = 1;
 }
 
+// A family, with one mask more.
+pub fn put(family: &mut [u64], mask: u16)
+    requires { ⌜ (length (now family) ≡ 256) × (mask < 16384) ⌝ }
+    ensures { λ _. ⌜ (length (now (family .exit)) ≡ 256) × ((m : ℕ) → m < 16384
+        → inFamily (now (family .exit)) m ≡ (inFamily (now (family .entry)) m || eqb m mask)) ⌝ }
+{
+    let w = (mask / 64) as usize;
+    family[w] = family[w] | (1 << (mask % 64));
+}
+
 // A family, with the masks of another.
 pub fn unite(family: &mut [u64], other: &[u64])
     requires { ⌜ (length (now family) ≡ 256) × (length (now other) ≡ 256) ⌝ }

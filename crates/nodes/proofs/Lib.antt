@@ -17,3 +17,4 @@ pub mod Writing
 pub mod Tables
 pub mod Answers
 pub mod Answering
+pub mod Blank
