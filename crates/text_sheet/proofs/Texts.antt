@@ -122,6 +122,15 @@ place-most s i = go (ltb i (length (dropped s))) refl
     go true e = omega (arith, place-inside s i (ltb-true i (length (dropped s)) e))
     go false e = omega (arith, place-beyond s i (ltb-false i (length (dropped s)) e))
 
+-- Of a text with no variable at fault: the cells that were read, what leads to the first place, and what the states decide.
+pub record RightCells (s : List ℕ) (r : Read) (cells bodies : List ℕ) (t : Tree) : Type 0 where
+  pub fits : (r .places ≤ 255) × (r .recs ≤ 51)
+  pub explained-by : Explained (take (1 + r .places) cells) (take (r .recs) bodies) (placesOf (termOf t))
+  pub first-place : placeOf [] (take (r .recs) bodies) (r .link) ≡ firstPlace (termOf t)
+  pub first-ends-at : Ends (take (1 + r .places) cells) (take (r .recs) bodies) (length (take (r .recs) bodies)) (r .link)
+  pub right-is : (out : List ℕ)
+      → foundInto (nextPlaces (placesOf (termOf t))) (readySets (placesOf (termOf t))) (2 ^ firstPlace (termOf t)) 7 out ≡ textInto s out
+
 module _ (s : List ℕ) (short : length s ≤ 256) {cells : List ℕ} {r : Read} {cells′ bodies′ : List ℕ} (was : TextRead (dropped s) cells r cells′ bodies′) where
   -- no text
   pub read-stopped : r .ok ≡ false → (x : List ℕ) × (parseOf 16 (dropped s) ≡ failed x) × (r .at ≡ length (dropped s) - length x)
@@ -175,16 +184,7 @@ module _ (s : List ℕ) (short : length s ≤ 256) {cells : List ℕ} {r : Read}
   pub wrong-is-answer : (out : List ℕ) → r .ok ≡ true → (r .wrong ≡ 256 → ⊥) → {a : SheetAnswer} → a ≡ refusing 23 → writtenBy a out ≡ textInto s out
   wrong-is-answer out is-ok wrong e = let w = read-wrong is-ok wrong in wrong-answer s out short (w .2) (w .3) e
 
-  -- of a text with no variable at fault, the cells and what leads to the first place
-  pub record RightCells (t : Tree) : Type 0 where
-    pub fits : (r .places ≤ 255) × (r .recs ≤ 51)
-    pub explained-by : Explained (take (1 + r .places) cells′) (take (r .recs) bodies′) (placesOf (termOf t))
-    pub first-place : placeOf [] (take (r .recs) bodies′) (r .link) ≡ firstPlace (termOf t)
-    pub first-ends-at : Ends (take (1 + r .places) cells′) (take (r .recs) bodies′) (length (take (r .recs) bodies′)) (r .link)
-    pub right-is : (out : List ℕ)
-        → foundInto (nextPlaces (placesOf (termOf t))) (readySets (placesOf (termOf t))) (2 ^ firstPlace (termOf t)) 7 out ≡ textInto s out
-
-  pub right-cells : r .ok ≡ true → r .wrong ≡ 256 → getD cells 0 0 ≡ 0 → (t : Tree) × RightCells t
+  pub right-cells : r .ok ≡ true → r .wrong ≡ 256 → getD cells 0 0 ≡ 0 → (t : Tree) × RightCells s r cells′ bodies′ t
   unfolding cellNumbers placeOf
   right-cells is-ok right zero-first =
       let w = read-right is-ok right in
@@ -197,9 +197,19 @@ module _ (s : List ℕ) (short : length s ≤ 256) {cells : List ℕ} {r : Read}
             subst⁻¹ (λ (n : ℕ). n ≤ 255) (k .places-are) (few-cells s short (w .2) (w .3)),
             subst⁻¹ (λ (n : ℕ). n ≤ 51) (k .recs-are) (few-bodies s short (w .2) (w .3)),
           );
-          explained-by = rw (cells-same, k .bodies-are) (cells-explained s short (w .2) (w .3));
-          first-place = rw (k .bodies-are, k .link-is) (first-is s short (w .2) (w .3));
-          first-ends-at = rw (cells-same, k .bodies-are, k .link-is) (first-followed s short (w .2) (w .3));
+          explained-by =
+              subst⁻¹ (λ (c : List ℕ). Explained c (take (r .recs) bodies′) (placesOf (termOf (w .0)))) cells-same
+              (subst⁻¹ (λ (b : List ℕ). Explained (cellNumbers (termOf (w .0))) b (placesOf (termOf (w .0)))) (k .bodies-are)
+              (cells-explained s short (w .2) (w .3)));
+          first-place =
+              subst⁻¹ (λ (b : List ℕ). placeOf [] b (r .link) ≡ firstPlace (termOf (w .0))) (k .bodies-are)
+              (subst⁻¹ (λ (l : ℕ). placeOf [] (bodyLinks (termOf (w .0))) l ≡ firstPlace (termOf (w .0))) (k .link-is)
+              (first-is s short (w .2) (w .3)));
+          first-ends-at =
+              subst⁻¹ (λ (c : List ℕ). Ends c (take (r .recs) bodies′) (length (take (r .recs) bodies′)) (r .link)) cells-same
+              (subst⁻¹ (λ (b : List ℕ). Ends (cellNumbers (termOf (w .0))) b (length b) (r .link)) (k .bodies-are)
+              (subst⁻¹ (λ (l : ℕ). Ends (cellNumbers (termOf (w .0))) (bodyLinks (termOf (w .0))) (length (bodyLinks (termOf (w .0)))) l)
+              (k .link-is) (first-followed s short (w .2) (w .3))));
           right-is = λ out. right-answer s out short (w .2) (w .3);
         },
       )
