@@ -8,7 +8,7 @@ use mathlib.Core.List.{List, [], _∷_, map}
 use mathlib.Core.Option.{Option, none, some, Option·elim}
 use Prim.Native.Nat.{ℕ, _+_, _-_, _^_, _≤_, _<_}
 use native.Mathlib.Omega.{arith}
-use lib.ListN.{length, getD, take}
+use lib.ListN.{length, getD, take, length-take}
 use lib.Dec.{ltb, leb}
 use borrow.Author.Tests.{le-leb, lt-leb, ltb-true, ltb-false}
 use Rattle.model.specs.Sheet.{good, check, then, plain}
@@ -31,6 +31,7 @@ use Rattle.text.proofs.Blanks.{place-inside, place-beyond}
 use Rattle.text.proofs.Widths.{few-places}
 use Rattle.text.proofs.Derived.{names-below, actions-below, few-recs}
 use Rattle.text.proofs.Substitution.{closed}
+use Rattle.text_places.proofs.Wanting.{to-inside}
 use Rattle.text.proofs.Explained.{explained, first-link, first-ends}
 
 pub long-fault : (s : List ℕ) → 256 < length s → 0 ≡ textFaultOf s
@@ -223,6 +224,28 @@ module _ (s : List ℕ) (short : length s ≤ 256) {cells : List ℕ} {r : Read}
 
   pub fault-none : r .ok ≡ true → r .wrong ≡ 256 → 0 ≡ textFaultOf s
   fault-none is-ok right = let w = read-right is-ok right in right-fault s s short (w .2) (w .3)
+
+module _ {s : List ℕ} {r : Read} {cells bodies : List ℕ} {t : Tree} (right : RightCells s r cells bodies t) {first : ℕ}
+    (is-first : first ≡ placeOf [] (take (r .recs) bodies) (r .link)) where
+  -- the first place has a cell
+  pub first-inside : first < length (take (1 + r .places) cells)
+  unfolding placeOf placesOf
+  first-inside =
+      subst⁻¹ (λ (p : ℕ). p < length (take (1 + r .places) cells)) is-first
+      (to-inside (take (1 + r .places) cells) (take (r .recs) bodies) (r .link) (right .first-ends-at)
+      (subst (λ (n : ℕ). 0 < n) (right .explained-by .as-many) (omega arith)))
+
+  -- the states from the first place on decide
+  pub right-found : (out : List ℕ)
+      → foundInto (nextPlaces (placesOf (termOf t))) (readySets (placesOf (termOf t))) (2 ^ first) 7 out ≡ textInto s out
+  right-found out =
+      ap (λ (p : ℕ). foundInto (nextPlaces (placesOf (termOf t))) (readySets (placesOf (termOf t))) (2 ^ p) 7 out)
+      (is-first ∙ right .first-place)
+      ∙ right .right-is out
+
+-- the bodies of its recs are few
+pub bodies-held : {s : List ℕ} {r : Read} {cells bodies : List ℕ} {t : Tree} → RightCells s r cells bodies t → length (take (r .recs) bodies) ≤ 64
+bodies-held {r = r} {bodies = bodies} right = omega (arith, right .fits .1, length-take (r .recs) bodies)
 
 -- what is left for a text is left for an equal one
 pub text-read-is : {x y cells : List ℕ} {r : Read} {cells′ bodies′ : List ℕ} → x ≡ y → TextRead x cells r cells′ bodies′

@@ -45,14 +45,7 @@ fn convert_cells(cells: &[u32], bodies: &[u16], first: u8, sheet: &mut [u8]) -> 
     let mut sizes = [0u8; 256];
     let mut masks = [0u16; 2048];
     let mut prefixes = [0u64; 1024];
-    text_places::fill_places(
-        cells,
-        bodies,
-        first,
-        &mut sizes,
-        &mut masks,
-        &mut prefixes,
-    );
+    text_places::fill_places(cells, bodies, first, &mut sizes, &mut masks, &mut prefixes);
     let mut counts = [0u8; 64];
     let mut ready = [0u16; 512];
     let mut next = [0u8; 896];
@@ -100,7 +93,12 @@ pub fn from_text(text: &[u8], sheet: &mut [u8]) -> SheetAnswer
         return refused(23);
     }
     let first = text_places::place_of(&bodies[..read.recs], read.link);
-    convert_cells(&cells[..1 + read.places], &bodies[..read.recs], first, sheet)
+    convert_cells(
+        &cells[..1 + read.places],
+        &bodies[..read.recs],
+        first,
+        sheet,
+    )
 }
 
 // For a text that is refused as 22 the byte, blanks counted, at which no derivation can go on; for 23 the first variable at fault; else 0.

@@ -1,93 +1,127 @@
+-- `text_sheet::from_text` meets its contract: each answer is that of the text, by what the reader found of it.
+-- Assumes nothing.
+use mathlib.Core.Path.{sym, ap, subst, subst⁻¹, _∙_}
+use Prim.Native.Nat.{ℕ, _+_, _^_, _<_}
+use native.Mathlib.Omega.{arith}
+use lib.ListN.{length, take, length-take}
 use borrow.Author.Needs.{needs}
+use borrow.Author.Tests.{not-true, not-false}
+use Rattle.nodes.specs.Answer.{writtenBy}
+use Rattle.nodes.specs.Filled.{foundInto}
+use Rattle.nodes.proofs.Blank.{zeros-blank}
+use Rattle.text.specs.Terms.{termOf}
+use Rattle.text.specs.Places.{placesOf, readySets, nextPlaces}
+use Rattle.text_places.proofs.Wanting.{link-leads}
+use Rattle.text_sheet.proofs.Texts.{long-answer, stopped-is, wrong-is-answer, right-cells, first-inside, bodies-held, right-found}
 use Rattle.text_sheet.proofs.from_text.Statement.{statement}
 use Rattle.text_sheet.proofs.from_text.Tie as tie
-use Rattle.text_sheet.proofs.from_text.Reads as reads
-use Rattle.text_sheet.proofs.from_text.Lts as lts
-use Rattle.nodes.proofs.found.refused.Reads as refused-reads
-use Rattle.text_places.proofs.place_of.Reads as place-of-reads
-use Rattle.text_sheet.proofs.convert_cells.Reads as convert-cells-reads
-use Rattle.text_sheet.proofs.read_cells.Reads as read-cells-reads
-use Rattle.text_sheet.proofs.too_long.Reads as too-long-reads
 
--- src/lib.rt:91:9
 too-long-requires : tie.Need-too-long-requires
 too-long-requires c κs = search needs
 
--- src/lib.rt:91:9
 returns : tie.Need-returns
-returns c = ?
+returns c = long-answer (c .before .before .before .before .args .text .now) (c .before .before .before .before .args .sheet .now) (c .before .if1 .taken) (c .too-long .ensures)
 
--- src/lib.rt:95:33
 slice-aggregate-read-cells : tie.Need-slice-aggregate-read-cells
 slice-aggregate-read-cells c = search needs
 
--- src/lib.rt:95:45
 slice-aggregate-read-cells-2 : tie.Need-slice-aggregate-read-cells-2
 slice-aggregate-read-cells-2 c = search needs
 
--- src/lib.rt:95:9
 read-cells-requires : tie.Need-read-cells-requires
 read-cells-requires c κs = search needs
 
--- src/lib.rt:97:9
 refused-requires : tie.Need-refused-requires
 refused-requires c κs = search needs
 
--- src/lib.rt:97:9
 returns-2 : tie.Need-returns-2
-returns-2 c = ?
+returns-2 c =
+    let s = c .before .before .before .before .before .before .before .before .before .before .before in
+    stopped-is (s .args .text .now) (omega (arith, c .before .before .before .before .before .before .before .before .if1 .left)) (c .before .before .before .before .before .read-cells .ensures) (s .args .sheet .now)
+    (not-true _ (c .before .if2 .taken)) (c .refused .ensures)
 
--- src/lib.rt:100:9
 refused-requires-2 : tie.Need-refused-requires-2
 refused-requires-2 c κs = search needs
 
--- src/lib.rt:100:9
 returns-3 : tie.Need-returns-3
-returns-3 c = ?
+returns-3 c =
+    let s = c .before .before .before .before .before .before .before .before .before .before .before .before .before in
+    wrong-is-answer (s .args .text .now) (omega (arith, c .before .before .before .before .before .before .before .before .before .before .if1 .left)) (c .before .before .before .before .before .before .before .read-cells .ensures) (s .args .sheet .now)
+    (not-false _ (c .before .before .before .if2 .left)) (c .before .if3 .taken) (c .refused2 .ensures)
 
--- src/lib.rt:102:39
 array-share-prefix-bodies : tie.Need-array-share-prefix-bodies
-array-share-prefix-bodies c = ?
+array-share-prefix-bodies c =
+    let right =
+    right-cells (c .before .before .before .before .before .before .before .before .before .before .before .before .args .text .now) (omega (arith, c .before .before .before .before .before .before .before .before .before .if1 .left)) (c .before .before .before .before .before .before .read-cells .ensures) (not-false _ (c .before .before .if2 .left))
+    (c .if3 .left) (zeros-blank 257 0) in
+    omega (arith, right .1 .fits .1)
 
--- src/lib.rt:102:39
 slice-aggregate-place-of : tie.Need-slice-aggregate-place-of
-slice-aggregate-place-of c = ?
+slice-aggregate-place-of c =
+    let right =
+    right-cells (c .before .before .before .before .before .before .before .before .before .before .before .before .before .args .text .now) (omega (arith, c .before .before .before .before .before .before .before .before .before .before .if1 .left)) (c .before .before .before .before .before .before .before .read-cells .ensures) (not-false _ (c .before .before .before .if2 .left))
+    (c .before .if3 .left) (zeros-blank 257 0) in
+    simp length-take (omega (arith, right .1 .fits .1))
 
--- src/lib.rt:102:9
 place-of-requires : tie.Need-place-of-requires
-place-of-requires c κs = ?
+place-of-requires c κs =
+    let right =
+    right-cells (c .before .before .before .before .before .before .before .before .before .before .before .before .before .args .text .now) (omega (arith, c .before .before .before .before .before .before .before .before .before .before .if1 .left)) (c .before .before .before .before .before .before .before .read-cells .ensures) (not-false _ (c .before .before .before .if2 .left))
+    (c .before .if3 .left) (zeros-blank 257 0) in
+    link-leads _ _ (right .1 .first-ends-at)
 
--- src/lib.rt:103:28
 add-cells : tie.Need-add-cells
-add-cells c = ?
+add-cells c =
+    let right =
+    right-cells (c .before .before .before .before .before .before .before .before .before .before .before .before .before .before .before .args .text .now) (omega (arith, c .before .before .before .before .before .before .before .before .before .before .before .before .if1 .left)) (c .before .before .before .before .before .before .before .before .before .read-cells .ensures) (not-false _ (c .before .before .before .before .before .if2 .left))
+    (c .before .before .before .if3 .left) (zeros-blank 257 0) in
+    omega (arith, right .1 .fits .0)
 
--- src/lib.rt:103:19
 array-share-prefix-cells : tie.Need-array-share-prefix-cells
-array-share-prefix-cells c = ?
+array-share-prefix-cells c =
+    let right =
+    right-cells (c .before .before .before .before .before .before .before .before .before .before .before .before .before .before .before .args .text .now) (omega (arith, c .before .before .before .before .before .before .before .before .before .before .before .before .if1 .left)) (c .before .before .before .before .before .before .before .before .before .read-cells .ensures) (not-false _ (c .before .before .before .before .before .if2 .left))
+    (c .before .before .before .if3 .left) (zeros-blank 257 0) in
+    omega (arith, right .1 .fits .0)
 
--- src/lib.rt:103:19
 slice-aggregate-convert-cells : tie.Need-slice-aggregate-convert-cells
-slice-aggregate-convert-cells c = ?
+slice-aggregate-convert-cells c =
+    let right =
+    right-cells (c .before .before .before .before .before .before .before .before .before .before .before .before .before .before .before .before .args .text .now) (omega (arith, c .before .before .before .before .before .before .before .before .before .before .before .before .before .if1 .left)) (c .before .before .before .before .before .before .before .before .before .before .read-cells .ensures) (not-false _ (c .before .before .before .before .before .before .if2 .left))
+    (c .before .before .before .before .if3 .left) (zeros-blank 257 0) in
+    simp length-take (omega (arith, right .1 .fits .0))
 
--- src/lib.rt:103:46
 array-share-prefix-bodies-2 : tie.Need-array-share-prefix-bodies-2
-array-share-prefix-bodies-2 c = ?
+array-share-prefix-bodies-2 c =
+    let right =
+    right-cells (c .before .before .before .before .before .before .before .before .before .before .before .before .before .before .before .before .args .text .now) (omega (arith, c .before .before .before .before .before .before .before .before .before .before .before .before .before .if1 .left)) (c .before .before .before .before .before .before .before .before .before .before .read-cells .ensures) (not-false _ (c .before .before .before .before .before .before .if2 .left))
+    (c .before .before .before .before .if3 .left) (zeros-blank 257 0) in
+    omega (arith, right .1 .fits .1)
 
--- src/lib.rt:103:46
 slice-aggregate-convert-cells-2 : tie.Need-slice-aggregate-convert-cells-2
-slice-aggregate-convert-cells-2 c = ?
+slice-aggregate-convert-cells-2 c =
+    let right =
+    right-cells (c .before .before .before .before .before .before .before .before .before .before .before .before .before .before .before .before .before .args .text .now) (omega (arith, c .before .before .before .before .before .before .before .before .before .before .before .before .before .before .if1 .left)) (c .before .before .before .before .before .before .before .before .before .before .before .read-cells .ensures) (not-false _ (c .before .before .before .before .before .before .before .if2 .left))
+    (c .before .before .before .before .before .if3 .left) (zeros-blank 257 0) in
+    simp length-take (omega (arith, right .1 .fits .1))
 
--- src/lib.rt:103:5
 convert-cells-requires : tie.Need-convert-cells-requires
-convert-cells-requires c κs = ?
+convert-cells-requires c κs =
+    let right =
+    right-cells (c .before .before .before .before .before .before .before .before .before .before .before .before .before .before .before .before .before .before .args .text .now) (omega (arith, c .before .before .before .before .before .before .before .before .before .before .before .before .before .before .before .if1 .left)) (c .before .before .before .before .before .before .before .before .before .before .before .before .read-cells .ensures) (not-false _ (c .before .before .before .before .before .before .before .before .if2 .left))
+    (c .before .before .before .before .before .before .if3 .left) (zeros-blank 257 0) in
+    ((_, right .1 .explained-by), first-inside (right .1) (c .before .before .before .before .place-of .ensures), bodies-held (right .1))
 
--- src/lib.rt:87:1
 same-length : tie.Need-same-length
 same-length c = search needs
 
--- src/lib.rt:87:1
 returns-4 : tie.Need-returns-4
-returns-4 c = ?
+returns-4 c =
+    let right =
+    right-cells (c .before .before .before .before .before .before .before .before .before .before .before .before .before .before .before .before .before .before .before .before .before .args .text .now) (omega (arith, c .before .before .before .before .before .before .before .before .before .before .before .before .before .before .before .before .before .before .if1 .left)) (c .before .before .before .before .before .before .before .before .before .before .before .before .before .before .before .read-cells .ensures) (not-false _ (c .before .before .before .before .before .before .before .before .before .before .before .if2 .left))
+    (c .before .before .before .before .before .before .before .before .before .if3 .left) (zeros-blank 257 0) in
+    c .before .before .convert-cells .ensures (placesOf (termOf (right .0))) (right .1 .explained-by)
+    ∙ right-found (right .1) (c .before .before .before .before .before .before .before .place-of .ensures) (c .before .before .before .before .before .before .before .before .before .before .before .before .before .before .before .before .before .before .before .before .before .args .sheet .now)
 
 pub from-text-spec : {M : Type 1} → statement M
 from-text-spec =
