@@ -6,7 +6,8 @@
  * memcpy and memset of the C library. examples/c is a program that uses it. The rules, sheets and plans are those of document 01 with
  * request 2/13 of document 02, choosing sheets those of its request 1/13, the check of a plan that of its request 3/13, the settled mode
  * that of its request 5/13, offsets and rows those of its request 6/13, texts those of its request 7/13; the words in quotation marks below
- * are taken from them. docs/FORMATS.md explains sheets and plans byte by byte and has the grammar of texts, docs/GLOSSARY.md the words.
+ * are taken from them. docs/FORMATS.md explains sheets and plans byte by byte, docs/GRAMMAR.md has the grammar of texts, docs/GLOSSARY.md the
+ * words.
  *
  * What the caller promises. The proof begins here: of a call that breaks one of these, nothing is said.
  *   - Each pointer leads to as many elements as the length behind it says, in one object, all of them initialised; any values will do. A
@@ -21,9 +22,10 @@
  *   - All memory is the caller's, before and after. No pointer is kept when a call returns.
  *   - Nothing is allocated, and there is no global state. Calls on distinct buffers are re-entrant, and may run at the same time; what is
  *     only read may be shared between them.
- *   - There is recursion in adapter_from_text and adapter_text_fault alone, no deeper than the depth of a text, which is 16, and the bodies
- *     of its recs allow. Of the stack these two use some 64 KiB, adapter_complies some 13 KiB, adapter_from_choosing some 5 KiB, the
- *     others less than 2 KiB; that is measured and not proved.
+ *   - There is recursion in adapter_from_text and adapter_text_fault alone, no deeper than the depth of a text, which is 16, its chains of +
+ *     and the bodies of its recs allow. Of the stack adapter_from_text uses some 22 KiB for a short text, and 70 KiB for the deepest that
+ *     were tried; adapter_text_fault 23 KiB, adapter_complies some 13 KiB, adapter_from_choosing some 5 KiB, the others less than 2 KiB;
+ *     that is measured and not proved.
  */
 #ifndef ADAPTER_H
 #define ADAPTER_H
