@@ -111,6 +111,9 @@ use Rattle.text.proofs.Recs.{
   a-plus,
   an-inner,
   find,
+  IsRec,
+  a-rec,
+  find-rec,
 }
 
 -- the cell of a prefix
@@ -264,6 +267,26 @@ module _ (root : Term) (whole : closed root) (sound : Faulty root → ⊥) (acti
     owned-later : {b c place k : ℕ} → b ≤ c → Owned b place k → Owned c place k
     owned-later le ((l, one, place, ends), is) = ((omega (arith, le, l), one, place, ends), is)
 
+    -- a rec's body is in its place among the bodies
+    body-is : {scope : Scope} {σ : Values} {n : ℕ} (v : ℕ) (t : Term) (w : Stands root scope σ n (loop v t))
+        → getD bodies (recsAt w) 0 ≡ linkAt (in-loop v t w)
+    unfolding bodiesIn ownersAt recsAt
+    body-is {n = n} v t w =
+        let inside = set (ownersAt w) v (recsAt w) in
+        inside-first (linkTo inside n (suc (recsAt w)) t) (bodiesIn inside n (suc (recsAt w)) t) 0 (bodies-inside w)
+
+    -- and ends through recs before it
+    body-ending : {scope : Scope} {σ : Values} {n : ℕ} (v : ℕ) (t : Term) (w : Stands root scope σ n (loop v t))
+        → ((x : ℕ) → Free x (loop v t) → Owned (recsAt w) (scope x .place) (getD (ownersAt w) x 0))
+        → Ending (recsAt w) (getD bodies (recsAt w) 0)
+    unfolding ownersAt recsAt
+    body-ending v t w h =
+        let r = recsAt w in
+        subst⁻¹ (Ending r) (body-is v t w)
+        (part-ends t (in-loop v t w) r (λ x k.
+        let d : x ≡ v → ⊥ = λ e. other-naked v t (part-sound root sound actions w) x k (sym e) in
+        subst⁻¹ (HasEnd r) (getD-set-other (ownersAt w) v x r 0 d) (h x (f-loop v t d (naked-free k)) .0)))
+
     -- A rec's own variable, in its body: as it stands under a prefix there, the body is no variable.
     own-owned : {scope : Scope} {σ : Values} {n : ℕ} (v : ℕ) (t : Term) (w : Stands root scope σ n (loop v t)) → Free v t
         → ((x : ℕ) → Free x (loop v t) → Owned (recsAt w) (scope x .place) (getD (ownersAt w) x 0))
@@ -272,18 +295,11 @@ module _ (root : Term) (whole : closed root) (sound : Faulty root → ⊥) (acti
     own-owned {scope} {σ} {n} v t w g h =
         let f = part-sound root sound actions w in
         let r = recsAt w in
-        let inside = set (ownersAt w) v r in
-        let link = linkTo inside n (suc r) t in
-        let rest = bodiesIn inside n (suc r) t in
-        let known = bodies-inside w in
-        let at : getD bodies r 0 ≡ link = inside-first link rest 0 known in
-        let place = leads-guarded (leads t scope inside n (suc r) (λ y. f (y-loop v t y)) (part-few (in-loop v t w))) v g (λ k. f (y-here v t k)) in
-        let ends : Ending r link =
-        part-ends t (in-loop v t w) r
-        (λ x k.
-        let d : x ≡ v → ⊥ = λ e. other-naked v t f x k (sym e) in
-        subst⁻¹ (HasEnd r) (getD-set-other (ownersAt w) v x r 0 d) (h x (f-loop v t d (naked-free k)) .0)) in (
-          (omega arith, omega (arith, inside-fits known), subst⁻¹ (λ (q : ℕ). q < 256) at (place .0), subst⁻¹ (Ending r) at ends),
+        let at = body-is v t w in
+        let place =
+        leads-guarded (leads t scope (set (ownersAt w) v r) n (suc r) (λ y. f (y-loop v t y)) (part-few (in-loop v t w))) v g
+        (λ k. f (y-here v t k)) in (
+          (omega arith, omega (arith, inside-fits (bodies-inside w)), subst⁻¹ (λ (q : ℕ). q < 256) at (place .0), body-ending v t w h),
           at ∙ place .1 ∙ sym (sense-place (loop v t) n scope f),
         )
 
@@ -396,6 +412,13 @@ module _ (root : Term) (whole : closed root) (sound : Faulty root → ⊥) (acti
     place-ends zero h = at-end (length bodies)
     place-ends (suc p) h = told (suc p) (omega arith) h .ends
 
+    rec-ends : {r : ℕ} → IsRec root r → Ending r (getD bodies r 0)
+    rec-ends (a-rec v t w) = body-ending v t w (free-owned w)
+
+    body-ends : (r : ℕ) → r < length bodies → Ending r (getD bodies r 0)
+    unfolding recsAt
+    body-ends r h = rec-ends (find-rec root at-root r (omega arith) (omega (arith, h, bodies-many root)))
+
     -- ---- the theorem
 
     -- The cells of a term say what its places mean.
@@ -407,6 +430,7 @@ module _ (root : Term) (whole : closed root) (sound : Faulty root → ⊥) (acti
           few = omega (arith, many, few);
           ends = place-ends;
           prefix-ends = λ p some h. told p some h .prefix-ends;
+          body-ends = body-ends;
           prefix-ready = λ p some h. told p some h .prefix-ready;
           prefix-steps = λ p some h. told p some h .prefix-steps;
           plus-ready = λ p some h. told p some h .plus-ready;

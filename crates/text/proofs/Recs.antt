@@ -188,3 +188,32 @@ find (inner t u) {n = n} w p l h =
     (an-inner t u w)
 find (loop v t) w p l h = find t (in-loop v t w) p l h
 find (name v) w p l h = absurd (omega (arith, l, h))
+
+-- ---- every rec stands somewhere
+
+pub data IsRec (root : Term) : ℕ → Type 0 where
+  a-rec : {scope : Scope} {σ : Values} {n : ℕ} (v : ℕ) (t : Term) (w : Stands root scope σ n (loop v t)) → IsRec root (recsAt w)
+
+-- a rec among those of two parts is one of the first or of the second
+either-is-rec : {root : Term} {r : ℕ} (m : ℕ) → (r < m → IsRec root r) → (m ≤ r → IsRec root r) → IsRec root r
+either-is-rec {root} {r} m f g = go (decLe m r)
+  where
+    go : Dec (m ≤ r) → IsRec root r
+    go (yes l) = g l
+    go (no l) = f (omega (arith, l))
+
+pub find-rec : {root : Term} (t : Term) {scope : Scope} {σ : Values} {n : ℕ} (w : Stands root scope σ n t) (r : ℕ) → recsAt w ≤ r
+    → r < recsAt w + recsOf t → IsRec root r
+unfolding recsOf recsAt
+find-rec end w r l h = absurd (omega (arith, l, h))
+find-rec (before j t) w r l h = find-rec t (in-before j t w) r l h
+find-rec (plus t u) w r l h =
+    either-is-rec (recsAt w + recsOf t) (λ k. find-rec t (in-plus-left t u w) r l k)
+    (λ k. find-rec u (in-plus-right t u w) r k (omega (arith, h)))
+find-rec (inner t u) w r l h =
+    either-is-rec (recsAt w + recsOf t) (λ k. find-rec t (in-inner-left t u w) r l k)
+    (λ k. find-rec u (in-inner-right t u w) r k (omega (arith, h)))
+find-rec {root} (loop v t) w r l h =
+    either-is-rec (suc (recsAt w)) (λ k. subst (IsRec root) (omega (arith, l, k)) (a-rec v t w))
+    (λ k. find-rec t (in-loop v t w) r k (omega (arith, h)))
+find-rec (name v) w r l h = absurd (omega (arith, l, h))

@@ -112,6 +112,8 @@ module _ (cells bodies : List ℕ) where
     -- every place, and what a prefix leads to, can be followed to its end, with so many recs in all
     pub ends : (p : ℕ) → p < length cells → Ends (length bodies) p
     pub prefix-ends : (p : ℕ) → 0 < p → p < length cells → cellAt p .kind < 14 → Ends (length bodies) (cellAt p .left)
+    -- so can every body, through recs before its own; it may be no place but another rec's variable, as that of Y in recX.a.recY.X
+    pub body-ends : (r : ℕ) → r < length bodies → Ends r (getD bodies r 0)
     -- a prefix: its action is its own only ready set and step
     pub prefix-ready : (p : ℕ) → 0 < p → p < length cells → cellAt p .kind < 14 → senseAt senses p .ready ≡ 2 ^ cellAt p .kind ∷ []
     pub prefix-steps : (p : ℕ) → 0 < p → p < length cells → cellAt p .kind < 14
