@@ -1,16 +1,14 @@
 -- The sets of rows are lawful nodes: what internal moves reach from a set is computed, so its ready sets are the masks of the open rows
 -- there, and its continuations what these rows do.
 -- Assumes nothing.
-use mathlib.Core.Path.{_≡_, refl, subst, subst⁻¹, _∙_}
-use mathlib.Core.Bool.{Bool, true, false, cond}
+use mathlib.Core.Path.{_≡_, refl, subst, subst⁻¹}
 use mathlib.Core.Logic.{_⊎_, ⊎-elim}
-use mathlib.Core.Option.{none, some, Option·none-ne-some, Option·some-injective}
-use mathlib.Core.List.{List, List·Memᴰ}
+use mathlib.Core.Option.{some}
+use mathlib.Core.List.{List·Memᴰ}
 use Prim.Native.Nat.{ℕ, _<_}
 use native.Mathlib.Omega.{arith}
 use lib.ListN.{length, getD}
-use lib.Dec.{T, eqb}
-use borrow.Author.Tests.{eqb-true, eqb-false}
+use lib.Dec.{T}
 use Rattle.model.specs.Contract.{actions, has, offersIn}
 use Rattle.model.specs.Search.{Reached, at-start, by-move}
 use Rattle.model.proofs.Lists.{any-intro, any-elim, keep-intro, keep-elim}

@@ -11,7 +11,7 @@ use native.Mathlib.Nat.{eq-or-lt-of-le}
 use lib.ListN.{length, getD, List·getD-map}
 use lib.Dec.{T, ltb, ltb→lt, nltb→le, not-T}
 use lib.Bits.{bitOr}
-use Rattle.model.specs.Lists.{any, upto}
+use Rattle.model.specs.Lists.{upto}
 use Rattle.model.specs.Contract.{has}
 use Rattle.model.proofs.Lists.{any-intro, any-elim, dec-T, cond-yes}
 use Rattle.model.proofs.Bits.{has-or-left, has-or-right, has-or-cases}

@@ -5,14 +5,14 @@ use mathlib.Core.Path.{_≡_, refl, sym, subst, subst⁻¹, _∙_}
 use mathlib.Core.Bool.{Bool, true, false, cond, _&&_}
 use mathlib.Core.Logic.{_⊎_, inl, inr, ⊎-elim}
 use mathlib.Core.List.{List, [], _∷_, List·Memᴰ, List·Memᴰ·head, List·Memᴰ·tail, List·Memᴰ·not-nil, List·Memᴰ·eq-of-singleton}
-use Prim.Native.Nat.{ℕ, zero, suc, _%_, _^_, _≤_, _<_}
+use Prim.Native.Nat.{ℕ, zero, suc, _≤_, _<_}
 use native.Mathlib.Omega.{arith}
 use lib.ListN.{length, getD}
-use lib.Dec.{T, ltb, ltb→lt, eqb→eq}
-use Rattle.model.specs.Lists.{all, keep, upto}
+use lib.Dec.{T, ltb, ltb→lt}
+use Rattle.model.specs.Lists.{keep, upto}
 use Rattle.model.specs.Contract.{actions, has, name}
-use Rattle.model.proofs.Lists.{and-both, is-true, all-intro, keep-grows-strictly, getD-mem}
-use Rattle.model.proofs.Actions.{action, upto-mem, mem-upto}
+use Rattle.model.proofs.Lists.{and-both, is-true, keep-grows-strictly, getD-mem}
+use Rattle.model.proofs.Actions.{action, mem-upto}
 use Rattle.model.proofs.Masks.{has-none}
 use Rattle.nodes.proofs.Sets.{mask-same}
 use Rattle.choosing.specs.Rows.{ChoosingRow, hides, opens, Choosing, rowIn, hiddenOf, maskOf, targetsOf, OpenFormed, RowFormed, Formed}

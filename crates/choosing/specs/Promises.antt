@@ -8,10 +8,10 @@ use Prim.Native.Nat.{ℕ, _<_}
 use lib.ListN.{length, take, drop}
 use lib.Dec.{T, eqb}
 use Rattle.model.specs.Bytes.{byte}
-use Rattle.model.specs.Contract.{Contract, has}
+use Rattle.model.specs.Contract.{has}
 use Rattle.model.specs.Sheet.{good, readSheet, contractIn}
 use Rattle.nodes.specs.Nodes.{nodesFound, contractWith, TooMany, FewReached, TooWide}
-use Rattle.nodes.specs.Words.{readyAfter, nodeAfter}
+use Rattle.nodes.specs.Words.{nodeAfter}
 use Rattle.nodes.specs.Answer.{Written}
 use Rattle.choosing.specs.Rows.{Choosing, Formed}
 use Rattle.nodes.specs.Transitions.{Behind, ReadyBy, SameBehind}

@@ -1,4 +1,4 @@
--- Where a text is at fault: for 22 the byte at which no derivation goes on, for 23 a variable's letter, each found again among the bytes with
+-- Where a text is at fault: for 22 the byte at which no derivation goes on, for 23 the first variable at fault, each found again among the bytes with
 -- blanks. By what reading comes to; behind a tree nothing is answered as 22 or 23.
 -- Assumes nothing.
 use mathlib.Core.Path.{_≡_, refl, ap, subst⁻¹, _∙_}
@@ -8,7 +8,7 @@ use mathlib.Core.List.{List, [], _∷_, _++_, append-nil}
 use Prim.Native.Nat.{ℕ, _-_, _≤_, _<_}
 use native.Mathlib.Omega.{arith}
 use lib.ListN.{length, getD, take, length-append}
-use lib.Seq.{take-append-seam, getD-append-seam}
+use lib.Seq.{take-append-seam, getD-append-seam, length-take-le}
 use Rattle.model.specs.Bytes.{byte}
 use Rattle.model.specs.Sheet.{Refusal, good, refusal, plain}
 use Rattle.model.proofs.Refusals.{OnlyRefused, only-then}
@@ -18,9 +18,10 @@ use Rattle.text.specs.Terms.{termOf}
 use Rattle.text.specs.Parser.{failed, parseOf}
 use Rattle.text.specs.Places.{contractOfTerm}
 use Rattle.text.specs.Convert.{dropped, placeOfByte, wrongAt, TextFault, readText, byteAtFault, textSheet, textInto, textFaultOf}
-use Rattle.text.specs.Promises.{IsText, StopsAt, LetterAt, FaultSays}
+use Rattle.text.specs.Promises.{IsText, StopsAt, VariableAt, FaultSays}
+use Rattle.text.specs.Uses.{FirstFault}
 use Rattle.text.proofs.Stops.{stops}
-use Rattle.text.proofs.Variables.{letter}
+use Rattle.text.proofs.Uses.{first-fault, letter}
 use Rattle.text.proofs.Blanks.{place-inside, place-byte, place-front, place-beyond}
 use Rattle.text.proofs.Read.{Outcome, too-long, stopped, at-fault, right, outcome}
 use Rattle.text.proofs.Says.{contract-refuses, text-refused, text-good, refused-number}
@@ -52,10 +53,21 @@ stops-at s r p =
     let behind : length (dropped s) - length r ≡ length (w .0) = omega (arith, ap length (w .1), length-append (w .0) r) in
     subst⁻¹ (λ (i : ℕ). StopsAt s (placeOfByte s i)) behind (stopped-at s (w .0) r (w .1) (w .2) (w .3))
 
-letter-at : (s : List ℕ) (t : Tree) (i : ℕ) → IsText s t → wrongAt [] [] 0 t ≡ some i → LetterAt s (placeOfByte s i)
-letter-at s t i h e =
-    let w = letter whole t (dropped s) i (h .derived) e in
-    (w .0, w .1, place-inside s i (w .2), place-byte s i (w .2) ∙ w .3)
+-- the first variable at fault, where it stood among the blanks
+variable-at : (s : List ℕ) (t : Tree) (i : ℕ) → IsText s t → wrongAt [] [] 0 t ≡ some i → VariableAt s (placeOfByte s i)
+variable-at s t i h e =
+    let f = first-fault t i e in
+    let w = letter whole t (dropped s) (f .0) i (h .derived) (f .1 .here) in
+    let before : length (dropped (take (placeOfByte s i) s)) ≡ i =
+    ap length (place-front s i (w .0)) ∙ length-take-le i (dropped s) (omega (arith, w .0)) in
+    record {
+      tree = t;
+      is-text = h;
+      variable = f .0;
+      first = subst⁻¹ (FirstFault t (f .0)) before (f .1);
+      within = place-inside s i (w .0);
+      letter = place-byte s i (w .0) ∙ w .1;
+    }
 
 -- ---- the byte that is answered
 
@@ -83,7 +95,7 @@ tree-other s out t e =
 
 fault-of : (s out : List ℕ) → Outcome s
     → (textInto s out .number ≡ 22 → StopsAt s (textFaultOf s))
-    × (textInto s out .number ≡ 23 → LetterAt s (textFaultOf s))
+    × (textInto s out .number ≡ 23 → VariableAt s (textFaultOf s))
     × ((textInto s out .number ≡ 22 → ⊥) → (textInto s out .number ≡ 23 → ⊥) → textFaultOf s ≡ 0)
 unfolding plain
 fault-of s out (too-long h e) =
@@ -94,10 +106,10 @@ fault-of s out (stopped r h p e) =
     ((λ d. subst⁻¹ (StopsAt s) (fault-byte s _ e) (stops-at s r p)), (λ d. absurd (omega (arith, n, d))), (λ a b. absurd (a n)))
 fault-of s out (at-fault t i h w e) =
     let n = refused-number s out (plain 23 0) (text-refused s _ e) in
-    ((λ d. absurd (omega (arith, n, d))), (λ d. subst⁻¹ (LetterAt s) (fault-byte s _ e) (letter-at s t i h w)), (λ a b. absurd (b n)))
+    ((λ d. absurd (omega (arith, n, d))), (λ d. subst⁻¹ (VariableAt s) (fault-byte s _ e) (variable-at s t i h w)), (λ a b. absurd (b n)))
 fault-of s out (right t h f e) =
     let o = tree-other s out t e in ((λ d. absurd (o .0 d)), (λ d. absurd (o .1 d)), (λ a b. no-fault s t e))
 
--- for 22 where no derivation goes on, for 23 a variable, 0 else
+-- for 22 where no derivation goes on, for 23 the first variable at fault, 0 else
 pub fault-says : FaultSays
 fault-says s out = fault-of s out (outcome s)

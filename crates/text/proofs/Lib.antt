@@ -3,6 +3,7 @@ pub mod Parse
 pub mod Stops
 pub mod Widths
 pub mod Variables
+pub mod Uses
 pub mod Blanks
 pub mod Substitution
 pub mod Moves

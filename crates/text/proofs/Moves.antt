@@ -1,9 +1,9 @@
 -- What the transitions of a term give, part by part: its ready sets, and what is directly behind an action of it.
 -- Assumes nothing.
-use mathlib.Core.Path.{_≡_, refl, ap, sym, subst, subst⁻¹, _∙_}
+use mathlib.Core.Path.{_≡_, refl, ap, sym, subst, subst⁻¹}
 use mathlib.Core.Bool.{Bool, true, false, cond}
-use mathlib.Core.Logic.{_↔_, _⊎_, inl, inr, ⊎-elim}
-use Prim.Native.Nat.{ℕ, zero, suc, _<_, _^_}
+use mathlib.Core.Logic.{_⊎_, inl, inr, ⊎-elim}
+use Prim.Native.Nat.{ℕ, _<_, _^_}
 use native.Mathlib.Omega.{arith}
 use lib.Pow.{pow-lt}
 use borrow.Author.Tests.{ltb-true, ltb-false}
@@ -11,7 +11,7 @@ use lib.Dec.{T, ltb}
 use lib.Bits.{bitOr, or-lt}
 use Rattle.model.specs.Contract.{has}
 use Rattle.model.proofs.Bits.{has-or-left, has-or-right, has-or-cases}
-use Rattle.model.proofs.Masks.{has-none, has-power, power-has}
+use Rattle.model.proofs.Masks.{has-power, power-has}
 use Rattle.nodes.specs.Transitions.{Silently, rests, goes-on, Stable, Initial}
 use Rattle.nodes.proofs.Sets.{mask-same, not-in-none}
 use Rattle.text.specs.Terms.{Term, end, before, plus, inner, loop, name}

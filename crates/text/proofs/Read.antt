@@ -6,19 +6,17 @@ use mathlib.Core.Bool.{Bool, true, false}
 use mathlib.Core.Option.{Option, none, some, Option·elim}
 use mathlib.Core.List.{List, []}
 use Prim.Native.Nat.{ℕ, _-_, _≤_, _<_}
-use native.Mathlib.Omega.{arith}
 use lib.ListN.{length}
 use lib.Dec.{leb}
 use borrow.Author.Tests.{leb-true, leb-false}
 use Rattle.model.specs.Sheet.{good, refusal, check, plain}
-use Rattle.text.specs.Grammar.{Spelled, takes, sends, Tree, Level, Derives, d-nought, d-variable, d-bare, d-dotted, d-bound, d-bracket, d-one, d-summed, d-only, d-chosen}
+use Rattle.text.specs.Grammar.{Tree}
 use Rattle.text.specs.Terms.{termOf, Wrong}
 use Rattle.text.specs.Parser.{Parse, failed, parsed, parseOf}
 use Rattle.text.specs.Convert.{dropped, placeOfByte, wrongAt, mostDeep, boundTree, treeRead, readText}
 use Rattle.text.specs.Promises.{IsText}
 use Rattle.text.proofs.Parse.{sound, read}
 use Rattle.text.proofs.Variables.{none-wrong}
-use Rattle.text.proofs.Stands.{ActionsBelow}
 
 -- what reading comes to, and what it answers
 pub data Outcome (s : List ℕ) : Type 0 where

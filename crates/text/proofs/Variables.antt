@@ -1,44 +1,15 @@
--- The test for a variable at fault finds one exactly if there is one, a variable unbound or under no prefix within its rec; and where it
--- finds one stands the letter of a variable.
+-- The test for a variable at fault finds one exactly if there is one, a variable unbound or under no prefix within its rec.
 -- Assumes nothing.
-use mathlib.Core.Path.{_≡_, refl, ap, sym, subst, subst⁻¹, _∙_}
+use mathlib.Core.Path.{_≡_, refl, sym, subst, _∙_}
 use mathlib.Core.Bool.{Bool, true, false, cond, not}
 use mathlib.Core.Logic.{_⊎_, inl, inr, ⊎-elim}
-use mathlib.Core.Option.{Option, none, some, Option·none-ne-some, Option·some-injective}
-use mathlib.Core.List.{List, [], _∷_, _++_}
-use Prim.Native.Nat.{ℕ, suc, _+_, _≤_, _<_}
-use native.Mathlib.Omega.{arith}
-use lib.ListN.{length, getD, length-append, List·getD-append}
-use lib.Seq.{getD-append-add}
+use mathlib.Core.Option.{Option, none, some, Option·none-ne-some}
+use mathlib.Core.List.{List, [], _∷_}
+use Prim.Native.Nat.{ℕ, suc, _+_}
 use lib.Dec.{T, eqb, eqb→eq, eqb-refl, T-not, not-T}
 use Rattle.model.specs.Lists.{any, keep}
 use Rattle.model.proofs.Lists.{or-cases, or-left, or-right, any-intro, any-elim, keep-intro, keep-elim}
-use Rattle.text.specs.Grammar.{
-  Tree,
-  nought,
-  bare,
-  dotted,
-  summed,
-  chosen,
-  bound,
-  variable,
-  bracket,
-  Level,
-  tight,
-  sums,
-  whole,
-  Derives,
-  d-nought,
-  d-variable,
-  d-bare,
-  d-dotted,
-  d-bound,
-  d-bracket,
-  d-one,
-  d-summed,
-  d-only,
-  d-chosen,
-}
+use Rattle.text.specs.Grammar.{Tree, nought, bare, dotted, summed, chosen, bound, variable, bracket}
 use Rattle.text.specs.Terms.{
   Term,
   end,
@@ -74,7 +45,6 @@ use Rattle.text.specs.Terms.{
 }
 use Rattle.text.specs.Convert.{actionWidth, widthOf, orElse, wrongAt}
 use Rattle.text.proofs.Substitution.{same-or-other}
-use Rattle.text.proofs.Widths.{width}
 
 -- ---- variables in lists
 
@@ -83,33 +53,33 @@ abbrev pub Among : ℕ → List ℕ → Type 0
 Among v l = T (any (eqb v) l)
 
 -- those other than one
-abbrev others : ℕ → List ℕ → List ℕ
+abbrev pub others : ℕ → List ℕ → List ℕ
 others w l = keep (λ v. not (eqb w v)) l
 
-among-cons : (v w : ℕ) (l : List ℕ) → Among v (w ∷ l) → (v ≡ w) ⊎ Among v l
+pub among-cons : (v w : ℕ) (l : List ℕ) → Among v (w ∷ l) → (v ≡ w) ⊎ Among v l
 unfolding any
 among-cons v w l a = ⊎-elim (λ e. inl (eqb→eq v w e)) (λ a. inr a) (or-cases (eqb v w) (any (eqb v) l) a)
 
-among-head : (v w : ℕ) (l : List ℕ) → v ≡ w → Among v (w ∷ l)
+pub among-head : (v w : ℕ) (l : List ℕ) → v ≡ w → Among v (w ∷ l)
 unfolding any
 among-head v w l e = or-left (eqb v w) (any (eqb v) l) (subst (λ (w : ℕ). T (eqb v w)) e (eqb-refl v))
 
-among-tail : (v w : ℕ) (l : List ℕ) → Among v l → Among v (w ∷ l)
+pub among-tail : (v w : ℕ) (l : List ℕ) → Among v l → Among v (w ∷ l)
 unfolding any
 among-tail v w l a = or-right (eqb v w) (any (eqb v) l) a
 
-none-among : (v : ℕ) → Among v [] → ⊥
+pub none-among : (v : ℕ) → Among v [] → ⊥
 unfolding any
 none-among v a = a
 
-among-others : (v w : ℕ) (l : List ℕ) → Among v (others w l) → Among v l × (v ≡ w → ⊥)
+pub among-others : (v w : ℕ) (l : List ℕ) → Among v (others w l) → Among v l × (v ≡ w → ⊥)
 among-others v w l a =
     let x = any-elim (eqb v) (others w l) a in
     let y = keep-elim (λ v. not (eqb w v)) (x .0) l (x .1) in
     let q = eqb→eq v (x .0) (x .2) in
     (any-intro (eqb v) (y .0) (x .2), λ e. T-not (eqb w (x .0)) (y .1) (subst (λ (u : ℕ). T (eqb w u)) (sym e ∙ q) (eqb-refl w)))
 
-others-among : (v w : ℕ) (l : List ℕ) → (v ≡ w → ⊥) → Among v l → Among v (others w l)
+pub others-among : (v w : ℕ) (l : List ℕ) → (v ≡ w → ⊥) → Among v l → Among v (others w l)
 others-among v w l n a =
     let x = any-elim (eqb v) l a in
     let q = eqb→eq v (x .0) (x .2) in
@@ -124,10 +94,10 @@ unfolding orElse
 neither none b e = (refl, e)
 neither (some i) b e = absurd (Option·none-ne-some i (sym e))
 
-pub one-of : (a b : Option ℕ) (k : ℕ) → orElse a b ≡ some k → (a ≡ some k) ⊎ (b ≡ some k)
+pub either-found : (a b : Option ℕ) (k : ℕ) → orElse a b ≡ some k → (a ≡ some k) ⊎ ((a ≡ none) × (b ≡ some k))
 unfolding orElse
-one-of none b k e = inr e
-one-of (some i) b k e = inl e
+either-found none b k e = inr (refl, e)
+either-found (some i) b k e = inl e
 
 -- ---- a variable that is found is at fault
 
@@ -176,11 +146,11 @@ bad-inner r p t u (inr b) =
     lifted r p u (inner t u) (λ v f. f-inner-right t u f) (λ v n. n-inner-right t u n) (λ y. y-inner-right t u y) b
 
 -- the test of a variable: it fails where the variable is found, and passes where none is
-failed-test : (b : Bool) (i k : ℕ) → cond b none (some i) ≡ some k → T b → ⊥
+pub failed-test : (b : Bool) (i k : ℕ) → cond b none (some i) ≡ some k → T b → ⊥
 failed-test true i k e t = Option·none-ne-some k e
 failed-test false i k e t = t
 
-passed-test : (b : Bool) (i : ℕ) → cond b none (some i) ≡ none → T b
+pub passed-test : (b : Bool) (i : ℕ) → cond b none (some i) ≡ none → T b
 passed-test true i e = tt
 passed-test false i e = absurd (Option·none-ne-some i (sym e))
 
@@ -192,12 +162,12 @@ bad-found (bare j) r p i k e = absurd (Option·none-ne-some k e)
 bad-found (dotted j t) r p i k e = bad-before r p j (termOf t) (bad-found t r r (i + suc (actionWidth j)) k e)
 bad-found (summed t u) r p i k e =
     bad-plus r p (termOf t) (termOf u)
-    (⊎-elim (λ e. inl (bad-found t r p i k e)) (λ e. inr (bad-found u r p (i + suc (widthOf t)) k e))
-    (one-of (wrongAt r p i t) (wrongAt r p (i + suc (widthOf t)) u) k e))
+    (⊎-elim (λ e. inl (bad-found t r p i k e)) (λ e. inr (bad-found u r p (i + suc (widthOf t)) k (e .1)))
+    (either-found (wrongAt r p i t) (wrongAt r p (i + suc (widthOf t)) u) k e))
 bad-found (chosen t u) r p i k e =
     bad-inner r p (termOf t) (termOf u)
-    (⊎-elim (λ e. inl (bad-found t r p i k e)) (λ e. inr (bad-found u r p (i + (3 + widthOf t)) k e))
-    (one-of (wrongAt r p i t) (wrongAt r p (i + (3 + widthOf t)) u) k e))
+    (⊎-elim (λ e. inl (bad-found t r p i k e)) (λ e. inr (bad-found u r p (i + (3 + widthOf t)) k (e .1)))
+    (either-found (wrongAt r p i t) (wrongAt r p (i + (3 + widthOf t)) u) k e))
 bad-found (bound v t) r p i k e = bad-loop r p v (termOf t) (bad-found t (v ∷ r) (others v p) (i + 5) k e)
 bad-found (variable v) r p i k e = naked v n-name (failed-test (any (eqb v) p) i k e)
 bad-found (bracket t) r p i k e = bad-found t r p (suc i) k e
@@ -220,12 +190,12 @@ no-faulty-end : Faulty end → ⊥
 no-faulty-end y = elim y [ ]
 
 -- in neither side
-none-summed : (t u : Tree) (r p : List ℕ) (i : ℕ) → wrongAt r p i (summed t u) ≡ none
+pub none-summed : (t u : Tree) (r p : List ℕ) (i : ℕ) → wrongAt r p i (summed t u) ≡ none
     → (wrongAt r p i t ≡ none) × (wrongAt r p (i + suc (widthOf t)) u ≡ none)
 unfolding wrongAt
 none-summed t u r p i e = neither (wrongAt r p i t) (wrongAt r p (i + suc (widthOf t)) u) e
 
-none-chosen : (t u : Tree) (r p : List ℕ) (i : ℕ) → wrongAt r p i (chosen t u) ≡ none
+pub none-chosen : (t u : Tree) (r p : List ℕ) (i : ℕ) → wrongAt r p i (chosen t u) ≡ none
     → (wrongAt r p i t ≡ none) × (wrongAt r p (i + (3 + widthOf t)) u ≡ none)
 unfolding wrongAt
 none-chosen t u r p i e = neither (wrongAt r p i t) (wrongAt r p (i + (3 + widthOf t)) u) e
@@ -284,71 +254,3 @@ not-faulty (bracket t) r p i e y = not-faulty t r p (suc i) e y
 pub none-wrong : (t : Tree) → wrongAt [] [] 0 t ≡ none → Wrong (termOf t) → ⊥
 none-wrong t e (inl w) = none-among (w .0) (free-among t [] [] 0 (λ v a. a) e (w .0) (w .1))
 none-wrong t e (inr y) = not-faulty t [] [] 0 e y
-
--- ---- the letter of the variable that is found
-
--- at place k stands the letter of a variable, where these bytes begin at place i
-abbrev Letter : List ℕ → ℕ → ℕ → Type 0
-Letter x i k = (v at : ℕ) × (v ≤ 2) × (k ≡ i + at) × (at < length x) × (getD x at 0 ≡ 88 + v)
-
--- with bytes behind
-letter-front : (x y : List ℕ) (i k : ℕ) → Letter x i k → Letter (x ++ y) i k
-letter-front x y i k h =
-    (h .0, h .1, h .2, h .3, omega (arith, length-append x y, h .4), List·getD-append x y 0 (h .1) (h .4) ∙ h .5)
-
--- with bytes before, so that they begin at place j
-letter-back : (x y : List ℕ) (i j k : ℕ) → j ≡ i + length x → Letter y j k → Letter (x ++ y) i k
-letter-back x y i j k e h = (
-  h .0,
-  length x + h .1,
-  h .2,
-  omega (arith, h .3),
-  omega (arith, length-append x y, h .4),
-  getD-append-add x y (h .1) 0 ∙ h .5,
-)
-
--- in either of two parts, with bytes between them
-letter-either : (x z y : List ℕ) (i j k : ℕ) → j ≡ i + length x + length z → Letter x i k ⊎ Letter y j k
-    → Letter (x ++ (z ++ y)) i k
-letter-either x z y i j k e (inl h) = letter-front x (z ++ y) i k h
-letter-either x z y i j k e (inr h) =
-    letter-back x (z ++ y) i (i + length x) k refl (letter-back z y (i + length x) j k e h)
-
--- a variable that is found stands where its part begins
-found-is : (b : Bool) (i k : ℕ) → cond b none (some i) ≡ some k → k ≡ i
-found-is true i k e = absurd (Option·none-ne-some k e)
-found-is false i k e = sym (Option·some-injective i k e)
-
--- in a part of a text that begins at place i
-letter-within : {l : Level} {t : Tree} {x : List ℕ} → Derives l t x → (r p : List ℕ) (i k : ℕ) → wrongAt r p i t ≡ some k
-    → Letter x i k
-unfolding wrongAt widthOf
-letter-within d-nought r p i k e = absurd (Option·none-ne-some k e)
-letter-within (d-variable v h) r p i k e = (v, 0, h, omega (arith, found-is (any (eqb v) p) i k e), omega arith, refl)
-letter-within (d-bare j x s) r p i k e = absurd (Option·none-ne-some k e)
-letter-within (d-dotted j t x y s d) r p i k e =
-    letter-either x (46 ∷ []) y i (i + suc (actionWidth j)) k (omega (arith, width tight (bare j) x (d-bare j x s)))
-    (inr (letter-within d r r (i + suc (actionWidth j)) k e))
-letter-within (d-bound v t y h d) r p i k e =
-    letter-back (114 ∷ 101 ∷ 99 ∷ (88 + v) ∷ 46 ∷ []) y i (i + 5) k refl (letter-within d (v ∷ r) (others v p) (i + 5) k e)
-letter-within (d-bracket t x d) r p i k e =
-    letter-back (40 ∷ []) (x ++ (41 ∷ [])) i (suc i) k (omega arith)
-    (letter-front x (41 ∷ []) (suc i) k (letter-within d r p (suc i) k e))
-letter-within (d-one t x d) r p i k e = letter-within d r p i k e
-letter-within (d-summed t u x y d c) r p i k e =
-    letter-either x (43 ∷ []) y i (i + suc (widthOf t)) k (omega (arith, width sums t x d))
-    (⊎-elim (λ e. inl (letter-within d r p i k e)) (λ e. inr (letter-within c r p (i + suc (widthOf t)) k e))
-    (one-of (wrongAt r p i t) (wrongAt r p (i + suc (widthOf t)) u) k e))
-letter-within (d-only t x d) r p i k e = letter-within d r p i k e
-letter-within (d-chosen t u x y d c) r p i k e =
-    letter-either x (40 ∷ 43 ∷ 41 ∷ []) y i (i + (3 + widthOf t)) k (omega (arith, width whole t x d))
-    (⊎-elim (λ e. inl (letter-within d r p i k e)) (λ e. inr (letter-within c r p (i + (3 + widthOf t)) k e))
-    (one-of (wrongAt r p i t) (wrongAt r p (i + (3 + widthOf t)) u) k e))
-
--- in a whole text
-pub letter : (l : Level) (t : Tree) (x : List ℕ) (i : ℕ) → Derives l t x → wrongAt [] [] 0 t ≡ some i
-    → (v : ℕ) × (v ≤ 2) × (i < length x) × (getD x i 0 ≡ 88 + v)
-letter l t x i d e =
-    let h = letter-within d [] [] 0 i e in
-    let q : i ≡ h .1 = omega (arith, h .3) in
-    (h .0, h .2, subst⁻¹ (λ (n : ℕ). n < length x) q (h .4), ap (λ (n : ℕ). getD x n 0) q ∙ h .5)

@@ -11,7 +11,7 @@ use Rattle.model.specs.Sheet.{Reading, good, refusal, check, then, Refusal, pla
 use Rattle.nodes.specs.SheetBytes.{sheetBytes}
 use Rattle.nodes.specs.Answer.{Written, written}
 use Rattle.text.specs.Grammar.{Tree, nought, bare, dotted, summed, chosen, bound, variable, bracket}
-use Rattle.text.specs.Terms.{Term, termOf}
+use Rattle.text.specs.Terms.{termOf}
 use Rattle.text.specs.Parser.{Parse, failed, parsed, parseOf}
 use Rattle.text.specs.Places.{contractOfTerm}
 

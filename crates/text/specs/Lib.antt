@@ -4,6 +4,7 @@ pub mod Transitions
 pub mod Parser
 pub mod Places
 pub mod Convert
+pub mod Uses
 pub mod Cells
 pub mod Steps
 pub mod Tables

@@ -19,6 +19,7 @@ use Rattle.text.specs.Terms.{Term, termOf, Wrong}
 use Rattle.text.specs.Transitions.{Hides, Does}
 use Rattle.text.specs.Places.{Sense, Step, senseAt, placesOf, firstPlace, readySets, nextPlaces}
 use Rattle.text.specs.Convert.{dropped, textInto, textFaultOf}
+use Rattle.text.specs.Uses.{FirstFault}
 
 -- ---- the grammar
 
@@ -131,14 +132,19 @@ StopsAt s at =
     × (at < length s) × (byte s at ≡ b) × (dropped (take at s) ≡ x))
     ⊎ ((dropped s ≡ x) × (at ≡ length s)))
 
--- Where the variable at fault stands: its letter is there.
-abbrev pub LetterAt : List ℕ → ℕ → Type 0
-LetterAt s at = (v : ℕ) × (v ≤ 2) × (at < length s) × (byte s at ≡ 88 + v)
+-- Where a text that is refused as 23 has its first variable at fault: its letter stands there, behind so many bytes that are no blanks.
+pub record VariableAt (s : List ℕ) (at : ℕ) : Type 0 where
+  pub tree : Tree
+  pub is-text : IsText s tree
+  pub variable : ℕ
+  pub first : FirstFault tree variable (length (dropped (take at s)))
+  pub within : at < length s
+  pub letter : byte s at ≡ 88 + variable
 
--- What a byte at fault says beside a number: for 22 where no derivation can go on, for 23 a variable; else it is 0.
+-- What a byte at fault says beside a number: for 22 where no derivation can go on, for 23 the first variable at fault; else it is 0.
 abbrev pub FaultOf : (s : List ℕ) (number at : ℕ) → Type 0
 FaultOf s number at =
-    (number ≡ 22 → StopsAt s at) × (number ≡ 23 → LetterAt s at) × ((number ≡ 22 → ⊥) → (number ≡ 23 → ⊥) → at ≡ 0)
+    (number ≡ 22 → StopsAt s at) × (number ≡ 23 → VariableAt s at) × ((number ≡ 22 → ⊥) → (number ≡ 23 → ⊥) → at ≡ 0)
 
 -- Every byte at fault says what it should, for all bytes.
 abbrev pub FaultSays : Type 0

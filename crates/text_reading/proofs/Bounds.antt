@@ -14,7 +14,7 @@ use Rattle.text.specs.Terms.{termOf}
 use Rattle.text.specs.Places.{sizeOf}
 use Rattle.text.specs.Cells.{recsOf}
 use Rattle.text.specs.Convert.{actionWidth, widthOf, wrongAt}
-use Rattle.text.proofs.Variables.{one-of}
+use Rattle.text.proofs.Variables.{either-found}
 
 pub action-width : (j : ℕ) → 1 ≤ actionWidth j
 unfolding actionWidth
@@ -48,12 +48,12 @@ wrong-inside (bare j) recs prefixed i k e = absurd (Option·none-ne-some k e)
 wrong-inside (dotted j t) recs prefixed i k e = omega (arith, wrong-inside t recs recs (i + suc (actionWidth j)) k e)
 wrong-inside (summed t u) recs prefixed i k e =
     ⊎-elim (λ h. omega (arith, wrong-inside t recs prefixed i k h))
-    (λ h. omega (arith, wrong-inside u recs prefixed (i + suc (widthOf t)) k h))
-    (one-of (wrongAt recs prefixed i t) (wrongAt recs prefixed (i + suc (widthOf t)) u) k e)
+    (λ h. omega (arith, wrong-inside u recs prefixed (i + suc (widthOf t)) k (h .1)))
+    (either-found (wrongAt recs prefixed i t) (wrongAt recs prefixed (i + suc (widthOf t)) u) k e)
 wrong-inside (chosen t u) recs prefixed i k e =
     ⊎-elim (λ h. omega (arith, wrong-inside t recs prefixed i k h))
-    (λ h. omega (arith, wrong-inside u recs prefixed (i + (3 + widthOf t)) k h))
-    (one-of (wrongAt recs prefixed i t) (wrongAt recs prefixed (i + (3 + widthOf t)) u) k e)
+    (λ h. omega (arith, wrong-inside u recs prefixed (i + (3 + widthOf t)) k (h .1)))
+    (either-found (wrongAt recs prefixed i t) (wrongAt recs prefixed (i + (3 + widthOf t)) u) k e)
 wrong-inside (bound v t) recs prefixed i k e =
     omega (arith, wrong-inside t (v ∷ recs) (keep (λ w. not (eqb v w)) prefixed) (i + 5) k e)
 wrong-inside (variable v) recs prefixed i k e = go (any (eqb v) prefixed) e

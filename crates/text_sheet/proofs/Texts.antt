@@ -9,9 +9,9 @@ use mathlib.Core.Option.{Option, none, some, Option·elim}
 use Prim.Native.Nat.{ℕ, _+_, _-_, _^_, _≤_, _<_}
 use native.Mathlib.Omega.{arith}
 use lib.ListN.{length, getD, take, length-take}
-use lib.Dec.{ltb, leb}
+use lib.Dec.{ltb}
 use borrow.Author.Tests.{le-leb, lt-leb, ltb-true, ltb-false}
-use Rattle.model.specs.Sheet.{good, check, then, plain}
+use Rattle.model.specs.Sheet.{check, then, plain}
 use Rattle.model.proofs.Lists.{keep-length}
 use Rattle.nodes.specs.Answer.{written, writtenBy}
 use Rattle.nodes.specs.Filled.{foundInto}

@@ -1,19 +1,18 @@
 -- The functions of the reader meet their contracts. Those that call each other have measures of four times the depth that is left: a tight
 -- part is below its chains, these below their brackets, and all of them below a tight part with one more depth left. A loop's invariant:
 -- whatever the first part begins, the part so far goes on with it. Assumes nothing.
-use mathlib.Core.Path.{_≡_, refl, sym, ap, _∙_}
-use mathlib.Core.Bool.{true, false}
+use mathlib.Core.Path.{_≡_, sym, ap, _∙_}
 use mathlib.Core.List.{List, [], _∷_}
-use Prim.Native.Nat.{_+_, _-_, _*_, _≤_}
+use Prim.Native.Nat.{_+_, _-_, _*_}
 use native.Mathlib.Omega.{arith}
-use lib.ListN.{length, drop, length-set}
+use lib.ListN.{length, drop}
 use borrow.Author.Needs.{needs}
 use borrow.Author.Tests.{not-true, not-false}
 use Rattle.text.specs.Grammar.{summed, chosen}
 use Rattle.text.specs.Parser.{Parse, tightAt, sumsOf, wholeOf, acted}
 use Rattle.text_reading.specs.declared.Read.{Read}
-use Rattle.text_reading.specs.Reading.{Ready, fails}
-use Rattle.text_reading.proofs.Bytes.{here, not-below, not-above}
+use Rattle.text_reading.specs.Reading.{fails}
+use Rattle.text_reading.proofs.Bytes.{here, not-below}
 use Rattle.text_reading.proofs.Steps.{
   tight-step,
   tight-none,

@@ -1,16 +1,13 @@
 -- `text_sheet::from_text` meets its contract: each answer is that of the text, by what the reader found of it.
 -- Assumes nothing.
-use mathlib.Core.Path.{sym, ap, subst, subst⁻¹, _∙_}
-use Prim.Native.Nat.{ℕ, _+_, _^_, _<_}
+use mathlib.Core.Path.{_∙_}
 use native.Mathlib.Omega.{arith}
-use lib.ListN.{length, take, length-take}
+use lib.ListN.{length-take}
 use borrow.Author.Needs.{needs}
 use borrow.Author.Tests.{not-true, not-false}
-use Rattle.nodes.specs.Answer.{writtenBy}
-use Rattle.nodes.specs.Filled.{foundInto}
 use Rattle.nodes.proofs.Blank.{zeros-blank}
 use Rattle.text.specs.Terms.{termOf}
-use Rattle.text.specs.Places.{placesOf, readySets, nextPlaces}
+use Rattle.text.specs.Places.{placesOf}
 use Rattle.text_places.proofs.Wanting.{link-leads}
 use Rattle.text_sheet.proofs.Texts.{long-answer, stopped-is, wrong-is-answer, right-cells, first-inside, bodies-held, right-found}
 use Rattle.text_sheet.proofs.from_text.Statement.{statement}

@@ -1,8 +1,7 @@
 -- `text_sheet::text_fault` meets its contract: the reader's answer tells which byte it is.
 -- Assumes nothing.
-use mathlib.Core.Path.{ap, _∙_}
+use mathlib.Core.Path.{_∙_}
 use native.Mathlib.Omega.{arith}
-use lib.ListN.{length}
 use borrow.Author.Needs.{needs}
 use borrow.Author.Tests.{not-true, not-false}
 use Rattle.text_sheet.proofs.Texts.{long-fault, place-most, fault-stopped, fault-wrong, fault-none}
