@@ -1,5 +1,5 @@
-// A case is a number of lent output bytes (16 bits), and a choosing sheet or a text. Its line: number, sheet and state, the length, for a text
-// the byte at fault, and every byte that the lent output holds after the call.
+// A case is a number of lent output bytes (16 bits), and a choosing sheet or a text. Its line: number, sheet and state, the length, for a
+// text the byte at fault, and every byte that the lent output holds after the call.
 ghost use mathlib.Core.Path.{_≡_};
 ghost use Prim.Native.Nat.{_<_, _≤_};
 ghost use lib.ListN.{length};

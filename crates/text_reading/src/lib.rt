@@ -111,7 +111,8 @@ fn in_rec(scope: Scope, v: u8, number: u8) -> Scope
 // The first variable at fault, with one more looked at.
 fn judged(from: Read, scope: Scope, v: u8) -> u16
     requires { ⌜ (v < 3) × (from .at < 256) ⌝ }
-    ensures { λ r. ⌜ r ≡ firstOf (from .wrong) (orNone (wrongAt (listed (scope .recs)) (listed (scope .prefixed)) (from .at) (variable v))) ⌝ }
+    ensures { λ r. ⌜ r ≡ firstOf (from .wrong)
+        (orNone (wrongAt (listed (scope .recs)) (listed (scope .prefixed)) (from .at) (variable v))) ⌝ }
 {
     if from.wrong != 256 {
         return from.wrong;
