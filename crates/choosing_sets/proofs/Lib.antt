@@ -4,7 +4,6 @@ pub mod RowsOf
 pub mod Summing
 pub mod Sorted
 pub mod Masks
-pub mod Writing
 pub mod Meeting
 pub mod Ranking
 pub mod ReadySets

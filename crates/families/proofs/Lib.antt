@@ -3,4 +3,4 @@ pub mod Families
 pub mod Gaining
 pub mod Tables
 pub mod MasksOf
-pub mod Writing
+pub mod Pieces

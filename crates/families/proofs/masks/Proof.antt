@@ -5,7 +5,8 @@ use native.Mathlib.Omega.{arith}
 use lib.ListN.{getD}
 use Rattle.families.specs.Families.{masksOf, masksIn}
 use Rattle.families.proofs.MasksOf.{masksFrom, from-all, from-end, from-more}
-use Rattle.families.proofs.Writing.{Writing, writing-none, writing-length, writing-end, most-length, rest-room, piece-all, piece-over}
+use Rattle.little_endian.proofs.OneByOne.{Writing, writing-none, writing-length, writing-end, most-length, rest-room}
+use Rattle.families.proofs.Pieces.{piece-all, piece-over}
 use Rattle.families.proofs.masks.Statement.{statement}
 use Rattle.families.proofs.masks.Tie as tie
 
@@ -81,7 +82,7 @@ same-length-2 : tie.Need-same-length-2 Inv-loop μ-loop
 same-length-2 c = writing-length (c .before .loop .inv .1) (omega arith)
 
 returns-2 : tie.Need-returns-2 Inv-loop μ-loop
-returns-2 c = let l = c .before .loop in writing-end (l .inv .1) 8 (from-end _ (l .w) (omega arith)) (l .inv .0)
+returns-2 c = let l = c .before .loop in writing-end (l .inv .1) (from-end _ (l .w) (omega arith)) 8 (l .inv .0)
 
 pub masks-spec : {M : Type 1} → statement M
 masks-spec =

@@ -7,7 +7,7 @@ use native.Mathlib.Omega.{arith}
 use lib.Count.{trailing-le}
 use Rattle.families.specs.Families.{masksIn}
 use Rattle.families.proofs.MasksOf.{in-none, in-less, in-lowest}
-use Rattle.families.proofs.Writing.{Writing, writing-none, writing-length, writing-end, writing-over, writing-more}
+use Rattle.little_endian.proofs.OneByOne.{Writing, writing-none, writing-length, writing-end, writing-over, writing-more}
 use Rattle.families.proofs.masks_in.Statement.{statement}
 use Rattle.families.proofs.masks_in.Tie as tie
 
@@ -30,7 +30,8 @@ returns : tie.Need-returns Inv-loop μ-loop
 returns c =
     let l = c .before .before .loop in
     let some = c .before .loop-test .taken in
-    writing-over (l .inv .2) (in-lowest (c .before .before .before .before .args .w) (l .rest) some (l .inv .1) refl) _ (c .if1 .taken)
+    writing-over (l .inv .2) _ _ (c .if1 .taken) (omega (arith, c .if1 .taken))
+    (in-lowest (c .before .before .before .before .args .w) (l .rest) some (l .inv .1) refl)
 
 mul-out : tie.Need-mul-out Inv-loop μ-loop
 mul-out c = omega arith
@@ -68,7 +69,8 @@ loop-again c =
     let some = c .before .before .loop-test .taken in (
       omega (arith, c .before .if1 .left),
       omega (arith, in-less (a .w) (l .rest) some (l .inv .1), l .inv .1),
-      writing-more (l .inv .2) (in-lowest (a .w) (l .rest) some (l .inv .1) (c .lowest .ensures)) (omega (arith, c .before .if1 .left)),
+      writing-more (l .inv .2) (omega (arith, c .before .if1 .left)) refl refl
+          (in-lowest (a .w) (l .rest) some (l .inv .1) (c .lowest .ensures)),
     )
 
 same-length-2 : tie.Need-same-length-2 Inv-loop μ-loop
@@ -78,7 +80,7 @@ returns-2 : tie.Need-returns-2 Inv-loop μ-loop
 returns-2 c =
     let l = c .before .loop in
     let w = c .before .before .before .args .w in
-    writing-end (l .inv .2) _ (subst (λ (x : ℕ). masksIn w x ≡ []) (sym (c .loop-test .left)) (in-none w)) (l .inv .0)
+    writing-end (l .inv .2) (subst (λ (x : ℕ). masksIn w x ≡ []) (sym (c .loop-test .left)) (in-none w)) _ (l .inv .0)
 
 pub masks-in-spec : {M : Type 1} → statement M
 masks-in-spec =

@@ -1,13 +1,14 @@
--- The numbers of a list written one behind the other at the front of what is lent.
+-- The numbers of a list written one behind the other at the front of what is lent, all of them or some at most.
 -- Assumes nothing.
 use mathlib.Core.Path.{_≡_, refl, sym, ap, _∙_}
 use mathlib.Core.List.{List, [], _∷_, _++_, append-nil}
-use Prim.Native.Nat.{ℕ, suc, _+_, _≤_, _<_, min}
+use Prim.Native.Nat.{ℕ, suc, _+_, _-_, _≤_, _<_, min}
 use native.Mathlib.Omega.{arith}
-use lib.ListN.{length, getD, take, drop, set, length-append}
+use lib.ListN.{length, getD, take, drop, set, length-append, length-take, length-drop}
 use lib.Seq.{drop-cons, append-snoc, set-append-seam, take-at, take-all}
+use borrow.Rule.Slice.PartMut.{midOf}
 use Rattle.little_endian.specs.Front.{front}
 use Rattle.little_endian.proofs.Front.{length-front}
 
 -- one number more behind those at the front
 front-more : (w xs : List ℕ) (m : ℕ) → length w < length xs → set (front w xs) (length w) m ≡ front (w ++ m ∷ []) xs
@@ -25,13 +26,26 @@ pub record Writing (numbers lent out : List ℕ) (n : ℕ) (left : List ℕ) : T
   pub many : length done ≡ n
   pub written : out ≡ front done lent
 
-pub writing-none : (numbers lent : List ℕ) → Writing numbers lent lent 0 numbers
+-- `most` of some numbers stand there, or all if they are fewer; r says how many there are, up to one more
+abbrev pub Most : (most : ℕ) (numbers lent out : List ℕ) (r : ℕ) → Type 0
+Most most numbers lent out r = (r ≡ min (most + 1) (length numbers)) × (out ≡ front (take most numbers) lent)
+
+pub most-length : (most : ℕ) (numbers lent : List ℕ) {out : List ℕ} {r : ℕ} → Most most numbers lent out r → most ≤ length lent
+    → length out ≡ length lent
+most-length most numbers lent is h =
+    ap length (is .1) ∙ length-front (take most numbers) lent (omega (arith, length-take most numbers))
+
+pub writing-none : (numbers lent : List ℕ) {left : List ℕ} → left ≡ numbers → Writing numbers lent lent 0 left
 unfolding front
-writing-none numbers lent = record { done = []; whole = refl; many = refl; written = refl }
+writing-none numbers lent e = record { done = []; whole = sym e; many = refl; written = refl }
 
 module _ {numbers lent out : List ℕ} {n : ℕ} {left : List ℕ} (is : Writing numbers lent out n left) where
   pub writing-length : n ≤ length lent → length out ≡ length lent
   writing-length h = ap length (is .written) ∙ length-front (is .done) lent (omega (arith, is .many))
+
+  -- what is lent on from place n on
+  pub rest-room : (room : ℕ) → n + room ≤ length lent → room ≤ length (midOf n (length out - n) out)
+  rest-room room h = let long = writing-length (omega arith) in simp (length-take, length-drop) (omega arith)
 
   pub writing-many : length numbers ≡ n + length left
   writing-many = omega (arith, ap length (is .whole), length-append (is .done) left, is .many)
@@ -60,22 +74,22 @@ module _ {numbers lent out : List ℕ} {n : ℕ} {left : List ℕ} (is : Writing
     done-all : is .done ≡ numbers
     done-all = sym (is .whole ∙ ap (λ (l : List ℕ). is .done ++ l) e ∙ append-nil (is .done))
 
-    pub writing-end : take n out ≡ numbers
+    pub writing-all : take n out ≡ numbers
     unfolding front
-    writing-end = ap (take n) (is .written) ∙ take-at (is .done) _ n (is .many) ∙ done-all
+    writing-all = ap (take n) (is .written) ∙ take-at (is .done) _ n (is .many) ∙ done-all
 
-    pub eight-end : n ≤ 8 → (n ≡ min 9 (length numbers)) × (out ≡ front (take 8 numbers) lent)
-    eight-end h =
+    -- and they are not too many
+    pub writing-end : (most : ℕ) → n ≤ most → Most most numbers lent out n
+    writing-end most h =
         let long = writing-many in
-        let few : length numbers ≤ 8 = omega (arith, ap length e) in (
+        let few : length numbers ≤ most = omega (arith, ap length e) in (
           omega (arith, ap length e),
-          is .written ∙ ap (λ (w : List ℕ). front w lent) (done-all ∙ sym (take-all 8 numbers few)),
+          is .written ∙ ap (λ (w : List ℕ). front w lent) (done-all ∙ sym (take-all most numbers few)),
         )
 
-  -- eight are written, and one more is left
-  pub eight-over : n ≡ 8 → {m : ℕ} {others : List ℕ} → left ≡ m ∷ others
-      → (9 ≡ min 9 (length numbers)) × (out ≡ front (take 8 numbers) lent)
-  eight-over h e = (
-    omega (arith, writing-many, ap length e),
-    is .written ∙ ap (λ (w : List ℕ). front w lent) (sym (ap (take 8) (is .whole) ∙ take-at (is .done) left 8 (is .many ∙ h))),
+  -- one more is left, and no room
+  pub writing-over : (most r : ℕ) {m : ℕ} {others : List ℕ} → n ≡ most → r ≡ most + 1 → left ≡ m ∷ others → Most most numbers lent out r
+  writing-over most r h k e = (
+    omega (arith, k, writing-many, ap length e),
+    is .written ∙ ap (λ (w : List ℕ). front w lent) (sym (ap (take most) (is .whole) ∙ take-at (is .done) left most (is .many ∙ h))),
   )
