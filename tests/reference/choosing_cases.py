@@ -65,15 +65,20 @@ def rooms(chance):
         length = length_of(sheet)
         if length > 11:
             found += 1
-            for room in (length, length - 1, length + 1, 0, 1, chance.below(length), length + chance.between(2, 40)):
-                yield framed(f"{room} bytes for {length}", sheet, room)
+            yield from rooms_around(chance, sheet, length)
 
 
-def refused_with_little(cases):
-    """Each refusal before 13: nothing lent, or more than any sheet needs."""
+def rooms_around(chance, data, length):
+    """What is converted to so many bytes, with as many lent, fewer, more."""
+    for room in (length, length - 1, length + 1, 0, 1, chance.below(length), length + chance.between(2, 40)):
+        yield framed(f"{room} bytes for {length}", data, room)
+
+
+def refused_with_little(cases, converted):
+    """Each refusal before 13: nothing lent, or more than most sheets need."""
     seen = {}
     for case in cases:
-        number = convert(case.data, b"").answer.number
+        number = converted(case.data, b"").answer.number
         seen[number] = seen.get(number, 0) + 1
         if number != 13 and seen[number] <= 6:
             yield framed(f"{case.label}, nothing lent", case.data, 0)
@@ -99,7 +104,7 @@ def cases():
     for kind, number, make in RANDOM:
         made += [Framed(f"{kind} {i}", make(chance)) for i in range(number)]
     usual = (framed(case.label, case.data, usual_room(case.data)) for case in made)
-    for case in (*usual, *refused_with_little(made), *rooms(chance)):
+    for case in (*usual, *refused_with_little(made, convert), *rooms(chance)):
         if case.data not in seen:
             seen.add(case.data)
             yield case

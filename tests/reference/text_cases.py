@@ -9,7 +9,7 @@ then every byte that the lent output holds after the call.
 
 from .cases import CASES
 from .chance import Chance
-from .choosing_cases import framed, lent
+from .choosing_cases import framed, lent, refused_with_little, rooms_around
 from .framing import Framed
 from .sheets import LONGEST
 from .text_edges import edges
@@ -73,19 +73,7 @@ def rooms(chance):
     for text in made:
         length = length_of(text)
         if length > 0:
-            for room in (length, length - 1, length + 1, 0, 1, chance.below(length), length + chance.between(2, 40)):
-                yield framed(f"{room} bytes for {length}", text, room)
-
-
-def refused_with_little(cases):
-    """Each refusal before 13: nothing lent, or more than most sheets need."""
-    seen = {}
-    for case in cases:
-        number = read_text(case.data, b"").answer.number
-        seen[number] = seen.get(number, 0) + 1
-        if number != 13 and seen[number] <= 6:
-            yield framed(f"{case.label}, nothing lent", case.data, 0)
-            yield framed(f"{case.label}, much lent", case.data, 300)
+            yield from rooms_around(chance, text, length)
 
 
 def cases():
@@ -95,7 +83,7 @@ def cases():
     for kind, number, make in RANDOM:
         made += [Framed(f"{kind} {i}", make(chance)) for i in range(number)]
     usual = (framed(case.label, case.data, length_of(case.data) + 3) for case in made)
-    for case in (*usual, *refused_with_little(made), *rooms(chance)):
+    for case in (*usual, *refused_with_little(made, read_text), *rooms(chance)):
         if case.data not in seen:
             seen.add(case.data)
             yield case
