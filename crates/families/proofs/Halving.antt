@@ -8,8 +8,8 @@ use native.Mathlib.Omega.{arith}
 use native.Mathlib.Nat.{mod-lt}
 use lib.Dec.{T, ltb}
 use lib.Bits.{bitAnd, bitOr, or-zero-r, or-lt, or-block, and-mask}
-use lib.Pow.{pow-pos, pow-lt, pow-add, split, shr-lt}
-use borrow.Author.Tests.{ltb-true, ltb-false}
+use lib.Pow.{pow-pos, pow-lt, pow-add, split}
+use borrow.Author.Tests.{ltb-true, ltb-false, ne-eqb}
 use Rattle.model.specs.Contract.{has}
 use Rattle.model.proofs.Lists.{or-cases, or-left, or-right}
 use Rattle.model.proofs.Bits.{has-or, has-mod, has-shift}
@@ -258,32 +258,48 @@ module _ (k few : ℕ) (double : few ≡ 2 ^ k + 2 ^ k) {most : ℕ} (closed : (
 pub none-within : (word few : ℕ) {other : ℕ} → other ≡ 0 → Joined (has 0) (has word) (has other) 64 few (has 0)
 none-within word few e = joined-none (inr (λ g t. absurd (rw (e, has-none g) at (t .1))))
 
--- the unions with bit 0, the empty mask
-pub first-within : (word : ℕ) {other : ℕ} → (other ≡ 0 → ⊥) → other < 2 → Joined (has 0) (has word) (has other) 64 1 (has word)
-first-within word {other} some small = record {
-  comes = λ m h t. inr record { f = m; g = 0; f-in = (h, t); g-in = (omega arith, there); is = sym (or-zero-r m) };
-  keeps = λ m h t. absurd (rw (has-none m) at t);
-  gives = λ m h u.
-      let none : u .g ≡ 0 = omega (arith, u .g-in .0) in
-      subst (λ (x : ℕ). T (has word x)) (sym (u .is ∙ ap (bitOr (u .f)) none ∙ or-zero-r (u .f))) (u .f-in .1);
-}
-  where
-    there : T (has other 0)
-    there = let e : other ≡ 1 = omega arith in rw (e, has-zero 1) tt
+-- the unions with the first place, the empty mask
+module _ (word other : ℕ) where
+  pub first-there : other % 2 ≡ 1 → Joined (has 0) (has word) (has other) 64 1 (has word)
+  first-there odd = record {
+    comes = λ m h t. inr record { f = m; g = 0; f-in = (h, t); g-in = (omega arith, there); is = sym (or-zero-r m) };
+    keeps = λ m h t. absurd (rw (has-none m) at t);
+    gives = λ m h u.
+        let none : u .g ≡ 0 = omega (arith, u .g-in .0) in
+        subst (λ (x : ℕ). T (has word x)) (sym (u .is ∙ ap (bitOr (u .f)) none ∙ or-zero-r (u .f))) (u .f-in .1);
+  }
+    where
+      there : T (has other 0)
+      there = rw (has-zero other, odd) tt
+
+  pub first-missing : (other % 2 ≡ 1 → ⊥) → Joined (has 0) (has word) (has other) 64 1 (has 0)
+  first-missing even = joined-none (inr missing)
+    where
+      missing : (g : ℕ) → Taken (has other) 1 g → ⊥
+      missing g t =
+          let none : g ≡ 0 = omega (arith, t .0) in
+          absurd (rw (none, has-zero other, ne-eqb (other % 2) 1 even) at (t .1))
+
+-- the unions with the lower half of some places, and with the upper one, that a number gains bit j for
+pub halves-within : (j few : ℕ) → j < 6 → few ≡ 2 ^ j + 2 ^ j → (other low high : ℕ) → ((m : ℕ) → m < 2 ^ j → has other m ≡ has low m)
+    → high ≡ other / 2 ^ (2 ^ j) → (word gained first second : ℕ)
+    → ((p : ℕ) → p < 64 → has gained p ≡ (has p j && (has word p || has word (p - 2 ^ j))))
+    → Joined (has 0) (has word) (has low) 64 (2 ^ j) (has first) → Joined (has 0) (has gained) (has high) 64 (2 ^ j) (has second)
+    → Joined (has 0) (has word) (has other) 64 few (has (bitOr first second))
+halves-within j few small double other low high low-is high-is word gained first second is =
+    joined-gained j few double (λ f h. or-lt 6 f (2 ^ j) h (pow-lt {j = 6} small))
+    (record { lower = low-is; upper = λ m h. rw high-is (has-shift other (2 ^ j) m) }) is (λ m h. has-or first second m)
 
 -- the numbers that the code makes: how many places a half has, and the lower half
-abbrev pub placesOf : (j : ℕ) → ℕ
+abbrev placesOf : (j : ℕ) → ℕ
 placesOf j = 1 * 2 ^ j % 2 ^ 64
 
-abbrev pub lowOf : (other j : ℕ) → ℕ
+abbrev lowOf : (other j : ℕ) → ℕ
 lowOf other j = bitAnd other (1 * 2 ^ placesOf j % 2 ^ 64 - 1)
 
-module _ (other bits : ℕ) (given : (bits ≤ 6) × (other < 2 ^ (2 ^ bits))) (some : bits ≡ 0 → ⊥) where
+module _ (bits : ℕ) (given : (3 ≤ bits) × (bits ≤ 6)) where
   abbrev j : ℕ
   j = bits - 1
-
-  double : 2 ^ bits ≡ 2 ^ j + 2 ^ j
-  double = let e : bits ≡ j + 1 = omega arith in ap (λ (n : ℕ). 2 ^ n) e ∙ omega (arith, pow-add 2 j 1)
 
   few : 2 ^ j < 2 ^ 6
   few = pow-lt {j = 6} (omega arith)
@@ -294,31 +310,21 @@ module _ (other bits : ℕ) (given : (bits ≤ 6) × (other < 2 ^ (2 ^ bits))) (
   power-is : 1 * 2 ^ placesOf j % 2 ^ 64 ≡ 2 ^ (2 ^ j)
   power-is = let wide : 2 ^ (2 ^ j) < 2 ^ 64 = pow-lt {j = 64} (omega (arith, few)) in rw places-is (omega arith)
 
-  low-is : lowOf other j ≡ other % 2 ^ (2 ^ j)
-  low-is = rw power-is (and-mask other (2 ^ j))
-
   pub places-fit : placesOf j < 64
   places-fit = omega (arith, places-is, few)
 
   pub power-some : 1 ≤ 1 * 2 ^ placesOf j % 2 ^ 64
   power-some = omega (arith, power-is, pow-pos (2 ^ j))
 
-  pub low-fits : lowOf other j < 2 ^ (2 ^ j)
-  low-fits = rw low-is (mod-lt other (pow-pos (2 ^ j)))
-
-  pub high-fits : other / 2 ^ placesOf j < 2 ^ (2 ^ j)
-  high-fits = rw places-is (shr-lt (2 ^ j) (2 ^ j) (subst (λ (x : ℕ). other < 2 ^ x) double (given .1)))
-
-  halves : Halves (2 ^ j) (has other) (has (lowOf other j)) (has (other / 2 ^ placesOf j))
-  halves = record {
-    lower = λ m h. rw low-is (sym (has-mod other (2 ^ j) m h));
-    upper = λ m h. rw places-is (has-shift other (2 ^ j) m);
-  }
-
-  -- the unions with the bits of the lower half, and with those of the upper one
-  pub more-within : (word gained first second : ℕ) → ((p : ℕ) → p < 64 → has gained p ≡ (has p j && (has word p || has word (p - 2 ^ j))))
+  pub more-within : (other word gained first second : ℕ)
+      → ((p : ℕ) → p < 64 → has gained p ≡ (has p j && (has word p || has word (p - 2 ^ j))))
       → Joined (has 0) (has word) (has (lowOf other j)) 64 (2 ^ j) (has first)
       → Joined (has 0) (has gained) (has (other / 2 ^ placesOf j)) 64 (2 ^ j) (has second)
       → Joined (has 0) (has word) (has other) 64 (2 ^ bits) (has (bitOr first second))
-  more-within word gained first second is =
-      joined-gained j (2 ^ bits) double (λ f h. or-lt 6 f (2 ^ j) h few) halves is (λ m h. has-or first second m)
+  more-within other =
+      let double : 2 ^ bits ≡ 2 ^ j + 2 ^ j =
+      let e : bits ≡ j + 1 = omega arith in
+      ap (λ (n : ℕ). 2 ^ n) e ∙ omega (arith, pow-add 2 j 1) in
+      let low-is : lowOf other j ≡ other % 2 ^ (2 ^ j) = rw power-is (and-mask other (2 ^ j)) in
+      halves-within j (2 ^ bits) (omega arith) double other (lowOf other j) (other / 2 ^ placesOf j)
+      (λ m h. rw low-is (sym (has-mod other (2 ^ j) m h))) (ap (λ (x : ℕ). other / 2 ^ x) places-is)

@@ -15,16 +15,44 @@ const HALF: usize = 128;
 
 // ---- in a number
 
-// All unions of a place in a number and one of the first 2 ^ bits places in another.
+// All unions of a place in a number and the first place in another: the number itself, or nothing.
+fn unions_first(word: u64, other: u64) -> u64
+    ensures { λ r. ⌜ Joined (has 0) (has word) (has other) 64 1 (has r) ⌝ }
+{
+    if other % 2 == 1 { word } else { 0 }
+}
+
+// All unions of a place in a number and one of the first two places in another: a place that is the second one has bit 0.
+fn unions_two(word: u64, other: u64) -> u64
+    ensures { λ r. ⌜ Joined (has 0) (has word) (has other) 64 2 (has r) ⌝ }
+{
+    unions_first(word, other) | unions_first(gained_within(word, 0), other >> 1)
+}
+
+// All unions of a place in a number and one of the first four places in another.
+fn unions_four(word: u64, other: u64) -> u64
+    ensures { λ r. ⌜ Joined (has 0) (has word) (has other) 64 4 (has r) ⌝ }
+{
+    unions_two(word, other) | unions_two(gained_within(word, 1), other >> 2)
+}
+
+// All unions of a place in a number and one of the first eight places in another, with no test on the way.
+fn unions_low(word: u64, other: u64) -> u64
+    ensures { λ r. ⌜ Joined (has 0) (has word) (has other) 64 8 (has r) ⌝ }
+{
+    unions_four(word, other) | unions_four(gained_within(word, 2), other >> 4)
+}
+
+// All unions of a place in a number and one of the first 2 ^ bits places in another, half by half. For an empty half nothing is done.
 fn unions_within(word: u64, other: u64, bits: u8) -> u64
-    requires { ⌜ (bits ≤ 6) × (other < 2 ^ (2 ^ bits)) ⌝ }
+    requires { ⌜ (3 ≤ bits) × (bits ≤ 6) ⌝ }
     ensures { λ r. ⌜ Joined (has 0) (has word) (has other) 64 (2 ^ bits) (has r) ⌝ }
 {
     if other == 0 {
         return 0;
     }
-    if bits == 0 {
-        return word;
+    if bits == 3 {
+        return unions_low(word, other);
     }
     let j = bits - 1;
     let half: u64 = 1 << j;

@@ -156,7 +156,7 @@ shared-slice-read-unions-within-2 : (t : ℕ) → lts.Need-shared-slice-read-uni
 shared-slice-read-unions-within-2 t c = other-there t (c .before .before .before)
 
 unions-within-requires : (t : ℕ) → lts.Need-unions-within-requires (calls t) (unions-at t) unions.Post
-unions-within-requires t c κs = (omega arith, omega (arith, c .shared-slice-known4 .given 0))
+unions-within-requires t c κs = omega arith
 
 slice-write-out : (t : ℕ) → lts.Need-slice-write-out (calls t) (unions-at t) unions.Post
 slice-write-out t c = out-there t (c .before .before .before .before)

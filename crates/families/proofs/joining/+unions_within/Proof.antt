@@ -6,11 +6,12 @@ use Prim.Native.Nat.{ℕ, _<_}
 use native.Mathlib.Omega.{arith}
 use borrow.Fn.Kinds.{In}
 use borrow.Fn.PlainCycle.{Measures, is, falls, and}
-use Rattle.families.proofs.Halving.{none-within, first-within, places-fit, power-some, low-fits, high-fits, more-within}
+use Rattle.families.proofs.Halving.{none-within, places-fit, power-some, more-within}
 use Rattle.families.proofs.joining.unions_within.Reads as unions-within
 use Rattle.families.proofs.joining.unions_within.Kinds as unions-within-kinds
 use Rattle.families.proofs.joining.+unions_within.Lts-unions_within as lts
 use Rattle.families.proofs.gained_within.Reads as gained-within-reads
+use Rattle.families.proofs.joining.unions_low.Reads as unions-low-reads
 use Rattle.families.proofs.joining.+unions_within.{statement}
 use Rattle.families.proofs.joining.+unions_within.Tie.{close}
 
@@ -25,17 +26,23 @@ unions-within-below t = and 0 unions-within-kinds.ps (falls 0 unions-within-kind
 
 -- what is known of the calls
 abbrev calls : ℕ → lts.Claims
-calls t = (unions-within-below t, unions-within.Post, gained-within-reads.Asked, gained-within-reads.Learnt)
+calls t = (
+  unions-low-reads.Asked,
+  unions-low-reads.Learnt,
+  unions-within-below t,
+  unions-within.Post,
+  gained-within-reads.Asked,
+  gained-within-reads.Learnt,
+)
 
 returns : (t : ℕ) → lts.Need-returns (calls t) (unions-within-at t) unions-within.Post
 returns t c = none-within (c .before .args .word) _ (c .if1 .taken)
 
+unions-low-requires : (t : ℕ) → lts.Need-unions-low-requires (calls t) (unions-within-at t) unions-within.Post
+unions-low-requires t c κs = tt
+
 returns-2 : (t : ℕ) → lts.Need-returns-2 (calls t) (unions-within-at t) unions-within.Post
-returns-2 t c =
-    let a = c .before .before .args in
-    let given = c .before .before .pre .1 in
-    let e : a .bits ≡ 0 = c .if2 .taken in
-    rw e (first-within (a .word) (c .before .if1 .left) (rw e at (given .1)))
+returns-2 t c = let e : c .before .before .before .args .bits ≡ 3 = c .before .if2 .taken in rw e (c .unions-low .ensures)
 
 sub-j : (t : ℕ) → lts.Need-sub-j (calls t) (unions-within-at t) unions-within.Post
 sub-j t c = omega arith
@@ -47,29 +54,27 @@ shl-half : (t : ℕ) → lts.Need-shl-half (calls t) (unions-within-at t) unions
 shl-half t c = omega arith
 
 shl-low : (t : ℕ) → lts.Need-shl-low (calls t) (unions-within-at t) unions-within.Post
-shl-low t c = places-fit _ _ (c .before .before .pre .1) (c .if2 .left)
+shl-low t c = places-fit _ (c .before .before .pre .1)
 
 sub-low : (t : ℕ) → lts.Need-sub-low (calls t) (unions-within-at t) unions-within.Post
-sub-low t c = power-some _ _ (c .before .before .pre .1) (c .if2 .left)
+sub-low t c = power-some _ (c .before .before .pre .1)
 
 unions-within-requires : (t : ℕ) → lts.Need-unions-within-requires (calls t) (unions-within-at t) unions-within.Post
-unions-within-requires t c κs = (omega arith, (omega arith, low-fits _ _ (c .before .before .pre .1) (c .if2 .left)))
+unions-within-requires t c κs = omega arith
 
 gained-within-requires : (t : ℕ) → lts.Need-gained-within-requires (calls t) (unions-within-at t) unions-within.Post
 gained-within-requires t c κs = omega arith
 
 shr-unions-within : (t : ℕ) → lts.Need-shr-unions-within (calls t) (unions-within-at t) unions-within.Post
-shr-unions-within t c = places-fit _ _ (c .before .before .before .before .pre .1) (c .before .before .if2 .left)
+shr-unions-within t c = places-fit _ (c .before .before .before .before .pre .1)
 
 unions-within-requires-2 : (t : ℕ) → lts.Need-unions-within-requires-2 (calls t) (unions-within-at t) unions-within.Post
-unions-within-requires-2 t c κs =
-    let s = c .before .before .before .before in
-    (omega (arith, s .pre), (omega (arith, s .pre), high-fits _ _ (s .pre .1) (c .before .before .if2 .left)))
+unions-within-requires-2 t c κs = omega arith
 
 returns-3 : (t : ℕ) → lts.Need-returns-3 (calls t) (unions-within-at t) unions-within.Post
 returns-3 t c =
     let s = c .before .before .before .before .before in
-    more-within _ _ (s .pre .1) (c .before .before .before .if2 .left) (s .args .word) (c .before .gained-within .result) _ _
+    more-within _ (s .pre .1) (s .args .other) (s .args .word) (c .before .gained-within .result) _ _
     (c .before .gained-within .ensures) (c .before .before .unions-within .ensures) (c .unions-within2 .ensures)
 
 pub +unions-within-spec : {M : Type 1} → statement M
@@ -80,6 +85,7 @@ pub +unions-within-spec : {M : Type 1} → statement M
     (unions-within-at t)
     unions-within.Post
     (returns t)
+    (unions-low-requires t)
     (returns-2 t)
     (sub-j t)
     (cast-half t)
