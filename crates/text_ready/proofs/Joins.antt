@@ -21,7 +21,7 @@ use Rattle.text_ready.specs.Joined.{Family, Union, Joined, Absorbs, Unit
 left-small : (a b m : ℕ) → m < 16384 → m ≡ bitOr a b → a < 16384
 left-small a b m h e = let k = or-add-and a b in let l = and-le-r a b in omega (arith, e, k, l, h)
 
-right-small : (a b m : ℕ) → m < 16384 → m ≡ bitOr a b → b < 16384
+pub right-small : (a b m : ℕ) → m < 16384 → m ≡ bitOr a b → b < 16384
 right-small a b m h e = left-small b a m h (e ∙ or-comm a b)
 
 or-of : (a b c j : ℕ) → T (has a j) ⊎ (T (has b j) ⊎ T (has c j)) → T (has (bitOr (bitOr a b) c) j)
