@@ -43,6 +43,10 @@ module _ (cells bodies : List ℕ) where
   abbrev pub Held : List Sense → List ℕ → Type 0
   Held senses held = (r : ℕ) → 256 * (r + 1) ≤ length held → HoldsBody senses held r
 
+  -- so it is, whatever the cells mean
+  abbrev pub HeldAlways : List ℕ → Type 0
+  HeldAlways held = (senses : List Sense) → Explained cells bodies senses → Held senses held
+
   -- The family of the body of rec r is put behind those of the recs below it.
   pub record HeldMore (r : ℕ) (held held′ : List ℕ) : Type 0 where
     pub room : length held′ ≡ length held

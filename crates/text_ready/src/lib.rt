@@ -1,5 +1,6 @@
-// The ready sets of a place, told the cells of all places: a family of masks is joined with each part in turn, so that no two families are
-// ever combined. Request 7/13, "ready sets of + are all unions of one from each side".
+// The ready sets of a place, told the cells of all places: a family of masks is joined with each part in turn. The families of the bodies of
+// the first recs are made once and held: where one of these is met, the family is joined with that one at once. Request 7/13, "ready sets of
+// + are all unions of one from each side".
 ghost use mathlib.Core.Path.{_≡_};
 ghost use mathlib.Core.List.{List};
 ghost use Prim.Native.Nat.{ℕ, _+_, _*_, _^_, _≤_, _<_, min};
@@ -12,7 +13,7 @@ ghost use Rattle.nodes.specs.Sets.{sorted};
 ghost use Rattle.text.specs.Places.{Sense, senseAt};
 ghost use Rattle.text.specs.Cells.{Ends, Explained, unpacked};
 ghost use Rattle.families.specs.Families.{Unions};
-ghost use Rattle.text_ready.specs.Ready.{Choice, Held, HeldMore, JoinedBy, Added};
+ghost use Rattle.text_ready.specs.Ready.{Choice, Held, HeldAlways, HeldMore, JoinedBy, Added};
 
 // Above all places: a link from here on leads to the body of a rec.
 const PLACES: u16 = 256;
@@ -85,7 +86,7 @@ fn join_families(family: &mut [u64], other: &[u64])
     families::unite(family, other);
 }
 
-// The body of a rec joined with a family: at once if its own family is held.
+// The body of a rec joined with a family: at once, if the family of the body is held.
 fn join_rec(
     cells: &[u32],
     bodies: &[u16],
@@ -258,8 +259,7 @@ pub fn hold_bodies(cells: &[u32], bodies: &[u16], held: &mut [u64])
     requires { ⌜ (length (now bodies) ≤ 64) × (length (now cells) ≤ 256) × (length (now held) ≤ 256 * length (now bodies))
         × ((r : ℕ) → r < length (now bodies) → Ends (now cells) (now bodies) r (getD (now bodies) r 0)) ⌝ }
     ensures { λ _. ⌜ (length (now (held .exit)) ≡ length (now (held .entry)))
-        × ((senses : List Sense) → Explained (now (cells .entry)) (now (bodies .entry)) senses
-        → Held (now (cells .entry)) (now (bodies .entry)) senses (now (held .exit))) ⌝ }
+        × HeldAlways (now (cells .entry)) (now (bodies .entry)) (now (held .exit)) ⌝ }
 {
     let mut r: usize = 0;
     while r < held.len() / WORDS {
