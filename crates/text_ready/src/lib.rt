@@ -12,7 +12,6 @@ ghost use Rattle.little_endian.specs.Front.{front};
 ghost use Rattle.nodes.specs.Sets.{sorted};
 ghost use Rattle.text.specs.Places.{Sense, senseAt};
 ghost use Rattle.text.specs.Cells.{Ends, Explained, unpacked};
-ghost use Rattle.families.specs.Families.{Unions};
 ghost use Rattle.text_ready.specs.Ready.{Choice, Held, HeldAlways, HeldMore, JoinedBy, Added};
 
 // Above all places: a link from here on leads to the body of a rec.
@@ -79,13 +78,6 @@ fn with_rec(recs: u64, r: usize) -> u64
 
 // ---- joining
 
-fn join_families(family: &mut [u64], other: &[u64])
-    requires { ⌜ (length (now family) ≡ 256) × (length (now other) ≡ 256) ⌝ }
-    ensures { λ _. ⌜ (length (now (family .exit)) ≡ 256) × Unions (now (family .entry)) (now (other .entry)) (now (family .exit)) ⌝ }
-{
-    families::unite(family, other);
-}
-
 // The body of a rec joined with a family: at once, if the family of the body is held.
 fn join_rec(
     cells: &[u32],
@@ -101,7 +93,7 @@ fn join_rec(
         (now (family .exit)) a ⌝ }
 {
     if r < held.len() / WORDS {
-        join_families(family, &held[WORDS * r..WORDS * r + WORDS]);
+        families::join(family, &held[WORDS * r..WORDS * r + WORDS]);
         return recs;
     }
     join(cells, bodies, held, bodies[r], r, family, recs)

@@ -34,11 +34,11 @@ use Rattle.text_ready.proofs.join_rec.Kinds as join-rec-kinds
 use Rattle.text_ready.proofs.+add_part+join+join_body+join_choice+join_rec.Lts-join_rec as join-rec-lts
 use Rattle.families.proofs.copy.Reads as copy-reads
 use Rattle.families.proofs.gain.Reads as gain-reads
+use Rattle.families.proofs.join.Reads as join-reads
 use Rattle.families.proofs.same.Reads as same-reads
 use Rattle.families.proofs.unite.Reads as unite-reads
 use Rattle.text_ready.proofs.has_rec.Reads as has-rec-reads
 use Rattle.text_ready.proofs.is_choice.Reads as is-choice-reads
-use Rattle.text_ready.proofs.join_families.Reads as join-families-reads
 use Rattle.text_ready.proofs.kind_of.Reads as kind-of-reads
 use Rattle.text_ready.proofs.left_of.Reads as left-of-reads
 use Rattle.text_ready.proofs.right_of.Reads as right-of-reads
@@ -139,7 +139,7 @@ join-body-claims t = (
 )
 
 abbrev join-rec-claims : ℕ → join-rec-lts.Claims
-join-rec-claims t = (join-families-reads.Asked, join-families-reads.Learnt, join-below t, join.Post)
+join-rec-claims t = (join-reads.Asked, join-reads.Learnt, join-below t, join.Post)
 
 abbrev join-choice-claims : ℕ → join-choice-lts.Claims
 join-choice-claims t = (
@@ -455,29 +455,29 @@ join-body-same-length-2 t c = search needs
 join-body-returns-3 : (t : ℕ) → join-body-lts.Need-returns-3 (join-body-claims t) (join-body-at t) join-body.Post
 join-body-returns-3 t c = c .before .before .before .before .before .before .join-rec .ensures
 
-join-rec-mul-join-families : (t : ℕ) → join-rec-lts.Need-mul-join-families (join-rec-claims t) (join-rec-at t) join-rec.Post
-join-rec-mul-join-families t c = search needs
+join-rec-mul-join : (t : ℕ) → join-rec-lts.Need-mul-join (join-rec-claims t) (join-rec-at t) join-rec.Post
+join-rec-mul-join t c = search needs
 
-join-rec-mul-join-families-2 : (t : ℕ) → join-rec-lts.Need-mul-join-families-2 (join-rec-claims t) (join-rec-at t) join-rec.Post
-join-rec-mul-join-families-2 t c = search needs
+join-rec-mul-join-2 : (t : ℕ) → join-rec-lts.Need-mul-join-2 (join-rec-claims t) (join-rec-at t) join-rec.Post
+join-rec-mul-join-2 t c = search needs
 
-join-rec-add-join-families : (t : ℕ) → join-rec-lts.Need-add-join-families (join-rec-claims t) (join-rec-at t) join-rec.Post
-join-rec-add-join-families t c = search needs
+join-rec-add-join : (t : ℕ) → join-rec-lts.Need-add-join (join-rec-claims t) (join-rec-at t) join-rec.Post
+join-rec-add-join t c = search needs
 
-join-rec-mul-join-families-3 : (t : ℕ) → join-rec-lts.Need-mul-join-families-3 (join-rec-claims t) (join-rec-at t) join-rec.Post
-join-rec-mul-join-families-3 t c = search needs
+join-rec-mul-join-3 : (t : ℕ) → join-rec-lts.Need-mul-join-3 (join-rec-claims t) (join-rec-at t) join-rec.Post
+join-rec-mul-join-3 t c = search needs
 
-join-rec-sub-join-families : (t : ℕ) → join-rec-lts.Need-sub-join-families (join-rec-claims t) (join-rec-at t) join-rec.Post
-join-rec-sub-join-families t c = search needs
+join-rec-sub-join : (t : ℕ) → join-rec-lts.Need-sub-join (join-rec-claims t) (join-rec-at t) join-rec.Post
+join-rec-sub-join t c = search needs
 
-join-rec-part-join-families-start : (t : ℕ) → join-rec-lts.Need-part-join-families-start (join-rec-claims t) (join-rec-at t) join-rec.Post
-join-rec-part-join-families-start t c = search needs
+join-rec-part-join-start : (t : ℕ) → join-rec-lts.Need-part-join-start (join-rec-claims t) (join-rec-at t) join-rec.Post
+join-rec-part-join-start t c = search needs
 
-join-rec-part-join-families-end : (t : ℕ) → join-rec-lts.Need-part-join-families-end (join-rec-claims t) (join-rec-at t) join-rec.Post
-join-rec-part-join-families-end t c = search needs
+join-rec-part-join-end : (t : ℕ) → join-rec-lts.Need-part-join-end (join-rec-claims t) (join-rec-at t) join-rec.Post
+join-rec-part-join-end t c = search needs
 
-join-rec-join-families-requires : (t : ℕ) → join-rec-lts.Need-join-families-requires (join-rec-claims t) (join-rec-at t) join-rec.Post
-join-rec-join-families-requires t c κs =
+join-rec-join-requires : (t : ℕ) → join-rec-lts.Need-join-requires (join-rec-claims t) (join-rec-at t) join-rec.Post
+join-rec-join-requires t c κs =
     let s = c .before .before .before .before .before .before .before in
     (s .pre .1 .2, simp (length-take, length-drop) (omega (arith, c .before .before .if1 .taken)))
 
@@ -492,14 +492,14 @@ join-rec-returns t c =
     let bodies = a .bodies .now in
     let held = a .held .now in
     let if1 = c .before .before .before .before .before .if1 in
-    let united = c .before .before .join-families .ensures in
+    let united = c .before .before .join .ensures in
     let body = to-body cells bodies (a .r + 1) (a .r) (s .pre .1 .3) refl in
     let fits : 256 * (a .r + 1) ≤ length held = omega (arith, if1 .taken) in
     body-joined cells bodies held (a .r) (a .recs) (a .recs) (body .place)
     (held-joined cells bodies held (a .r) (a .recs) fits (slot-is (a .r) held) (united .0) (united .1))
 
-join-rec-mul-join : (t : ℕ) → join-rec-lts.Need-mul-join (join-rec-claims t) (join-rec-at t) join-rec.Post
-join-rec-mul-join t c =
+join-rec-mul-join-4 : (t : ℕ) → join-rec-lts.Need-mul-join-4 (join-rec-claims t) (join-rec-at t) join-rec.Post
+join-rec-mul-join-4 t c =
     let s = c .before .before .before .before .before in
     let a = s .args in
     let body = to-body (a .cells .now) (a .bodies .now) (a .r + 1) (a .r) (s .pre .1 .3) refl in
@@ -511,8 +511,8 @@ join-rec-shared-slice-read-join t c =
     let a = s .args in
     to-body (a .cells .now) (a .bodies .now) (a .r + 1) (a .r) (s .pre .1 .3) refl .inside
 
-join-rec-join-requires : (t : ℕ) → join-rec-lts.Need-join-requires (join-rec-claims t) (join-rec-at t) join-rec.Post
-join-rec-join-requires t c κs =
+join-rec-join-requires-2 : (t : ℕ) → join-rec-lts.Need-join-requires-2 (join-rec-claims t) (join-rec-at t) join-rec.Post
+join-rec-join-requires-2 t c κs =
     let s = c .before .before .before .before .before .before .before in
     let a = s .args in
     let cells = a .cells .now in
@@ -531,7 +531,7 @@ join-rec-returns-2 t c =
     let cells = a .cells .now in
     let bodies = a .bodies .now in
     let held = a .held .now in
-    let join = c .before .before .join in
+    let join = c .before .before .join2 in
     let body = to-body cells bodies (a .r + 1) (a .r) (s .pre .1 .3) refl in
     body-joined cells bodies held (a .r) (a .recs) (join .result) (body .place) (join .ensures)
 
@@ -820,18 +820,18 @@ pub +add-part+join+join-body+join-choice+join-rec-spec : {M : Type 1} → statem
     (join-rec-claims t)
     (join-rec-at t)
     join-rec.Post
-    (join-rec-mul-join-families t)
-    (join-rec-mul-join-families-2 t)
-    (join-rec-add-join-families t)
-    (join-rec-mul-join-families-3 t)
-    (join-rec-sub-join-families t)
-    (join-rec-part-join-families-start t)
-    (join-rec-part-join-families-end t)
-    (join-rec-join-families-requires t)
+    (join-rec-mul-join t)
+    (join-rec-mul-join-2 t)
+    (join-rec-add-join t)
+    (join-rec-mul-join-3 t)
+    (join-rec-sub-join t)
+    (join-rec-part-join-start t)
+    (join-rec-part-join-end t)
+    (join-rec-join-requires t)
     (join-rec-same-length t)
     (join-rec-returns t)
-    (join-rec-mul-join t)
+    (join-rec-mul-join-4 t)
     (join-rec-shared-slice-read-join t)
-    (join-rec-join-requires t)
+    (join-rec-join-requires-2 t)
     (join-rec-same-length-2 t)
     (join-rec-returns-2 t)
