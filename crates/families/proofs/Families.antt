@@ -102,8 +102,8 @@ copied {from} {l} {now} long r end =
     ext-getD 0 now from (r .room ∙ sym long) (λ i h. r .done i (omega arith) (omega (arith, r .room)))
 
 -- one number more is equal
-pub equal-more : (one other : List ℕ) (w : ℕ) → ((i : ℕ) → w ≤ i → i < 256 → getD one i 0 ≡ getD other i 0)
-    → getD one (w - 1) 0 ≡ getD other (w - 1) 0 → (i : ℕ) → w - 1 ≤ i → i < 256 → getD one i 0 ≡ getD other i 0
-equal-more one other w f e i h k =
+pub equal-more : (one other : List ℕ) (w n : ℕ) → ((i : ℕ) → w ≤ i → i < n → getD one i 0 ≡ getD other i 0)
+    → getD one (w - 1) 0 ≡ getD other (w - 1) 0 → (i : ℕ) → w - 1 ≤ i → i < n → getD one i 0 ≡ getD other i 0
+equal-more one other w n f e i h k =
     ⊎-elim (λ (same : w - 1 ≡ i). subst (λ (j : ℕ). getD one j 0 ≡ getD other j 0) same e) (λ (more : w - 1 < i). f i (omega arith) k)
     (eq-or-lt-of-le h)

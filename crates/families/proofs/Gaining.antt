@@ -91,38 +91,40 @@ gains-back m j t = go (m / 2 ^ j) (split m j) (bit-set m j t)
         let o = rw up at (or-power (m - 2 ^ j) j) in
         omega (arith, bit-fits m j t)
 
--- ---- a family in which every mask has gained an action, by tests
+-- ---- what has gained an action, by tests
+
+-- below `most`, a test takes what another one took, with bit j: a number that has the bit, and was taken with it or without
+module _ (most j : ℕ) (was now : ℕ → Bool) (same : (m : ℕ) → m < most → now m ≡ (has m j && (was m || was (m - 2 ^ j)))) where
+  pub gained-comes : (m : ℕ) → m < most → T (now m) → (f : ℕ) × (f < most) × T (was f) × (m ≡ bitOr f (2 ^ j))
+  gained-comes m h t =
+      let both = and-both (has m j) (was m || was (m - 2 ^ j)) (subst T (same m h) t) in
+      ⊎-elim (λ (u : T (was m)). (m, h, u, sym (gains-none m j (both .0))))
+      (λ (u : T (was (m - 2 ^ j))). (m - 2 ^ j, omega arith, u, sym (gains-back m j (both .0))))
+      (or-cases (was m) (was (m - 2 ^ j)) (both .1))
+
+  pub gained-there : (m f : ℕ) → m < most → T (was f) → m ≡ bitOr f (2 ^ j) → T (now m)
+  gained-there m f h t e =
+      subst T (sym (same m h))
+      (and-of (has m j) (was m || was (m - 2 ^ j)) (subst (λ (x : ℕ). T (has x j)) (sym e) (has-or-right f (2 ^ j) j (has-power j)))
+      (⊎-elim with-it without (dec-T (has f j))))
+    where
+      with-it : T (has f j) → T (was m || was (m - 2 ^ j))
+      with-it u = or-left (was m) (was (m - 2 ^ j)) (subst (λ (x : ℕ). T (was x)) (sym (e ∙ gains-none f j u)) t)
+
+      without : (T (has f j) → ⊥) → T (was m || was (m - 2 ^ j))
+      without n =
+          let less : f ≡ m - 2 ^ j = omega (arith, gains-one f j n) in
+          or-right (was m) (was (m - 2 ^ j)) (subst (λ (x : ℕ). T (was x)) less t)
 
 -- mask m is there: it has the action, and was there with it or without
 abbrev pub gainedBit : (l : List ℕ) (j m : ℕ) → Bool
 gainedBit l j m = has m j && (inFamily l m || inFamily l (m - 2 ^ j))
 
-module _ (l now : List ℕ) (j : ℕ) (same : (m : ℕ) → m < 16384 → inFamily now m ≡ gainedBit l j m) where
-  comes : (m : ℕ) → m < 16384 → T (inFamily now m) → (f : ℕ) × (f < 16384) × T (inFamily l f) × (m ≡ bitOr f (2 ^ j))
-  comes m h t =
-      let both = and-both (has m j) (inFamily l m || inFamily l (m - 2 ^ j)) (subst T (same m h) t) in
-      ⊎-elim (λ (u : T (inFamily l m)). (m, h, u, sym (gains-none m j (both .0))))
-      (λ (u : T (inFamily l (m - 2 ^ j))). (m - 2 ^ j, omega arith, u, sym (gains-back m j (both .0))))
-      (or-cases (inFamily l m) (inFamily l (m - 2 ^ j)) (both .1))
-
-  gains : (m f : ℕ) → m < 16384 → f < 16384 → T (inFamily l f) → m ≡ bitOr f (2 ^ j) → T (inFamily now m)
-  gains m f h k t e =
-      subst T (sym (same m h))
-      (and-of (has m j) (inFamily l m || inFamily l (m - 2 ^ j))
-      (subst (λ (x : ℕ). T (has x j)) (sym e) (has-or-right f (2 ^ j) j (has-power j)))
-      (⊎-elim with-it without (dec-T (has f j))))
-    where
-      with-it : T (has f j) → T (inFamily l m || inFamily l (m - 2 ^ j))
-      with-it u =
-          or-left (inFamily l m) (inFamily l (m - 2 ^ j)) (subst (λ (x : ℕ). T (inFamily l x)) (sym (e ∙ gains-none f j u)) t)
-
-      without : (T (has f j) → ⊥) → T (inFamily l m || inFamily l (m - 2 ^ j))
-      without n =
-          let less : f ≡ m - 2 ^ j = omega (arith, gains-one f j n) in
-          or-right (inFamily l m) (inFamily l (m - 2 ^ j)) (subst (λ (x : ℕ). T (inFamily l x)) less t)
-
-  forced : Forced j l now
-  forced = record { comes = comes; gains = gains }
+forced : (l now : List ℕ) (j : ℕ) → ((m : ℕ) → m < 16384 → inFamily now m ≡ gainedBit l j m) → Forced j l now
+forced l now j same = record {
+  comes = gained-comes 16384 j (inFamily l) (inFamily now) same;
+  gains = λ m f h k t e. gained-there 16384 j (inFamily l) (inFamily now) same m f h t e;
+}
 
 -- ---- number by number
 

@@ -4,3 +4,5 @@ pub mod Gaining
 pub mod Tables
 pub mod MasksOf
 pub mod Writing
+pub mod Halving
+pub mod Numbers

@@ -26,3 +26,10 @@ masksIn w word = map (λ p. 64 * w + p) (keep (has word) (upto 0 64))
 pub record Forced (j : ℕ) (words words′ : List ℕ) : Type 0 where
   pub comes : (m : ℕ) → m < 16384 → T (inFamily words′ m) → (f : ℕ) × (f < 16384) × T (inFamily words f) × (m ≡ bitOr f (2 ^ j))
   pub gains : (m f : ℕ) → m < 16384 → f < 16384 → T (inFamily words f) → m ≡ bitOr f (2 ^ j) → T (inFamily words′ m)
+
+-- The family of all unions of a mask of one family and a mask of another.
+pub record Unions (one other all : List ℕ) : Type 0 where
+  pub comes : (m : ℕ) → m < 16384 → T (inFamily all m)
+      → (f g : ℕ) × (f < 16384) × T (inFamily one f) × (g < 16384) × T (inFamily other g) × (m ≡ bitOr f g)
+  pub gives : (m f g : ℕ) → m < 16384 → f < 16384 → g < 16384 → T (inFamily one f) → T (inFamily other g) → m ≡ bitOr f g
+      → T (inFamily all m)

@@ -9,7 +9,11 @@ ghost use lib.Bits.{bitOr};
 ghost use lib.Count.{trailingZeros};
 ghost use Rattle.model.specs.Contract.{has};
 ghost use Rattle.little_endian.specs.Front.{front};
-ghost use Rattle.families.specs.Families.{inFamily, masksOf, masksIn, Forced};
+ghost use Rattle.families.specs.Families.{inFamily, masksOf, masksIn, Forced, Unions};
+
+mod joining;
+
+use joining::unions;
 
 // Numbers in a family.
 const WORDS: usize = 256;
@@ -154,6 +158,18 @@ pub fn gain(family: &mut [u64], j: u8)
     } else {
         gain_high(family, j - 6);
     }
+}
+
+// ---- unions
+
+// All unions of a mask of a family and a mask of another, in the place of the first.
+pub fn join(family: &mut [u64], other: &[u64])
+    requires { ⌜ (length (now family) ≡ 256) × (length (now other) ≡ 256) ⌝ }
+    ensures { λ _. ⌜ (length (now (family .exit)) ≡ 256) × Unions (now (family .entry)) (now (other .entry)) (now (family .exit)) ⌝ }
+{
+    let mut all = [0u64; WORDS];
+    unions(family, other, 8, &mut all);
+    copy(&all, family);
 }
 
 // ---- the masks in order

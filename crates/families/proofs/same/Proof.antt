@@ -46,7 +46,7 @@ loop-again : tie.Need-loop-again Inv-loop μ-loop
 loop-again c =
     let l = c .before .before .before .before .loop in
     let a = c .before .before .before .before .before .args in
-    (omega (arith, l .inv .0), equal-more (a .one .now) (a .other .now) (l .w) (l .inv .1) (c .if1 .left))
+    (omega (arith, l .inv .0), equal-more (a .one .now) (a .other .now) (l .w) 256 (l .inv .1) (c .if1 .left))
 
 returns-2 : tie.Need-returns-2 Inv-loop μ-loop
 returns-2 c =
