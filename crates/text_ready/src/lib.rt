@@ -1,6 +1,6 @@
-// The ready sets of a place, told the cells of all places: a family of masks is joined with each part in turn. The families of the bodies of
-// the first recs are made once and held: where one of these is met, the family is joined with that one at once. Request 7/13, "ready sets of
-// + are all unions of one from each side".
+// The ready sets of a place, told the cells of all places: a family of masks is joined with each part in turn. The families of the bodies
+// of the first recs are made once and held: where one of these bodies is met, the family is joined with the one that is held. Request 7/13,
+// "ready sets of + are all unions of one from each side".
 ghost use mathlib.Core.Path.{_≡_};
 ghost use mathlib.Core.List.{List};
 ghost use Prim.Native.Nat.{ℕ, _+_, _*_, _^_, _≤_, _<_, min};

@@ -12,7 +12,8 @@ use native.Mathlib.Nat.{pos-of-ne-zero}
 use Rattle.text.specs.Cells.{Ends}
 use Rattle.text_ready.specs.Ready.{Choice}
 use Rattle.text.proofs.Ends.{weight, weight-most, lighter, lighter-other, to-body, rec-ends, inside-cells, link-small, parts-at, is-plus}
-use Rattle.text_ready.proofs.Settled.{end-joined, prefix-joined, plus-joined, body-known, body-joined, held-joined, body-noted, part-added, at-link, from-start, put-back}
+use Rattle.text_ready.proofs.Settled.{at-link, from-start, put-back, end-joined, prefix-joined, plus-joined, part-added}
+use Rattle.text_ready.proofs.Settled.{body-known, body-joined, held-joined, body-noted}
 use Rattle.text_ready.proofs.Choosing.{Choosing, choosing-none, choosing-more, choosing-ends, parts-of}
 use Rattle.text_ready.proofs.Slots.{slot-is}
 use borrow.Fn.Kinds.{In}
