@@ -19,9 +19,10 @@ use Rattle.text.specs.Places.{Sense, senseAt}
 use Rattle.text.specs.Cells.{Explained}
 use Rattle.text.specs.Steps.{PrefixesOf}
 use Rattle.text.specs.Tables.{IsWanted, PlaceTables}
+use Rattle.text_ready.proofs.Slots.{put-below}
 use Rattle.text_places.specs.Wanted.{Wanting}
 use Rattle.text_places.specs.Filled.{Rooms, Kept, FilledPlace, Filling}
-use Rattle.text_places.proofs.Parts.{put-below, masks-here, set-here, set-below, set-above, sets-empty}
+use Rattle.text_places.proofs.Parts.{masks-here, set-here, set-below, set-above, sets-empty}
 
 module _ (cells bodies : List ℕ) where
   -- ---- one place written

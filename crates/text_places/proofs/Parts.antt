@@ -4,30 +4,13 @@ use mathlib.Core.Path.{_≡_, refl, sym, ap, _∙_}
 use mathlib.Core.List.{List, [], _∷_, _++_}
 use Prim.Native.Nat.{ℕ, zero, suc, _+_, _-_, _*_, _≤_, _<_}
 use native.Mathlib.Omega.{arith}
-use lib.ListN.{length, getD, take, drop, length-drop, take-append-drop}
-use lib.Seq.{length-take-le, take-append-le, drop-append-le, take-at, drop-at, drop-drop, getD-drop, take-all}
+use lib.ListN.{length, getD, take, drop}
+use lib.Seq.{take-append-le, take-at, drop-drop, getD-drop, take-all}
 use borrow.Rule.Slice.PartMut.{putMid, midOf, postOf, drop-put}
 use Rattle.little_endian.specs.Front.{front}
 use Rattle.place_sets.specs.PlaceSets.{numberOf, setAt}
 use Rattle.place_sets.proofs.Numbers.{number-none}
-
-module _ (a k : ℕ) (xs zs : List ℕ) (fits : a ≤ length xs) where
-  -- what begins there
-  pub put-here : drop a (putMid a k xs zs) ≡ zs ++ postOf a k xs
-  put-here = drop-at (take a xs) (zs ++ postOf a k xs) a (length-take-le a xs fits)
-
-  front-part : (m s : ℕ) → m + s ≤ a → (l : List ℕ) → take s (drop m (take a xs ++ l)) ≡ take s (drop m (take a xs))
-  front-part m s low l =
-      let long = length-take-le a xs fits in
-      ap (take s) (drop-append-le m (take a xs) l (omega (arith, long)))
-      ∙ take-append-le s (drop m (take a xs)) l (omega (arith, length-drop m (take a xs), long))
-
-  -- s numbers before it
-  pub put-below : (m s : ℕ) → m + s ≤ a → take s (drop m (putMid a k xs zs)) ≡ take s (drop m xs)
-  put-below m s low =
-      front-part m s low (zs ++ postOf a k xs)
-      ∙ sym (front-part m s low (drop a xs))
-      ∙ ap (λ (l : List ℕ). take s (drop m l)) (take-append-drop a xs)
+use Rattle.text_ready.proofs.Slots.{put-here, put-below}
 
 -- ---- masks: eight numbers for each place, and the rest of the list is lent
 

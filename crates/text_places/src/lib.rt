@@ -2,17 +2,27 @@
 // them. Request 7/13.
 ghost use mathlib.Core.Path.{_≡_};
 ghost use mathlib.Core.List.{List, []};
-ghost use Prim.Native.Nat.{ℕ, _+_, _-_, _≤_, _<_};
+ghost use Prim.Native.Nat.{ℕ, _+_, _-_, _*_, _≤_, _<_};
 ghost use lib.ListN.{length, getD};
 ghost use Rattle.place_sets.specs.PlaceSets.{numberOf, setAt};
 ghost use Rattle.text.specs.Places.{Sense};
 ghost use Rattle.text.specs.Cells.{placeOf, Explained};
 ghost use Rattle.text.specs.Tables.{PlaceTables};
+ghost use Rattle.text_ready.specs.Ready.{HeldAlways};
 ghost use Rattle.text_places.specs.Wanted.{Known, Wanting};
 ghost use Rattle.text_places.specs.Filled.{Rooms, FilledPlace, Filling};
 
 // Above all places: a link from here on leads to the body of a rec.
 const PLACES: u16 = 256;
+
+// With fewer recs no body is met often, so no family of a body is held.
+const FEW: usize = 3;
+
+// So many families of bodies are held at most.
+const MOST: usize = 8;
+
+// Numbers in a family.
+const WORDS: usize = 256;
 
 // ---- the places that can be in a state
 
@@ -60,17 +70,18 @@ fn want(cells: &[u32], bodies: &[u16], first: u8, wanted: &mut [u64])
 fn fill_place(
     cells: &[u32],
     bodies: &[u16],
+    held: &[u64],
     p: usize,
     sizes: &mut [u8],
     masks: &mut [u16],
     prefixes: &mut [u64],
 )
     requires { ⌜ Known (now cells) (now bodies) × (p < length (now cells)) × Rooms (now sizes) (now masks) (now prefixes)
-        × (setAt (now prefixes) p ≡ 0) ⌝ }
+        × (setAt (now prefixes) p ≡ 0) × HeldAlways (now cells) (now bodies) (now held) ⌝ }
     ensures { λ _. ⌜ FilledPlace (now (cells .entry)) (now (bodies .entry)) p (now (sizes .entry)) (now (masks .entry))
         (now (prefixes .entry)) (now (sizes .exit)) (now (masks .exit)) (now (prefixes .exit)) ⌝ }
 {
-    sizes[p] = text_ready::put_ready(cells, bodies, p as u16, &mut masks[8 * p..]);
+    sizes[p] = text_ready::put_ready(cells, bodies, held, p as u16, &mut masks[8 * p..]);
     text_steps::put_prefixes(cells, bodies, p as u16, &mut prefixes[4 * p..4 * p + 4]);
 }
 
@@ -78,6 +89,7 @@ fn fill_place(
 fn fill_if(
     cells: &[u32],
     bodies: &[u16],
+    held: &[u64],
     wanted: &[u64],
     p: usize,
     sizes: &mut [u8],
@@ -85,17 +97,69 @@ fn fill_if(
     prefixes: &mut [u64],
 )
     requires { ⌜ Known (now cells) (now bodies) × (p < length (now cells)) × (length (now wanted) ≡ 4)
-        × Filling (now cells) (now bodies) (now wanted) p (now sizes) (now masks) (now prefixes) ⌝ }
+        × Filling (now cells) (now bodies) (now wanted) p (now sizes) (now masks) (now prefixes)
+        × HeldAlways (now cells) (now bodies) (now held) ⌝ }
     ensures { λ _. ⌜ Filling (now (cells .entry)) (now (bodies .entry)) (now (wanted .entry)) (p + 1)
         (now (sizes .exit)) (now (masks .exit)) (now (prefixes .exit)) ⌝ }
 {
     if place_sets::has_place(wanted, p as u8) {
-        fill_place(cells, bodies, p, sizes, masks, prefixes);
+        fill_place(cells, bodies, held, p, sizes, masks, prefixes);
     }
 }
 
 // The same for every place of a set.
 fn fill_wanted(
+    cells: &[u32],
+    bodies: &[u16],
+    held: &[u64],
+    wanted: &[u64],
+    sizes: &mut [u8],
+    masks: &mut [u16],
+    prefixes: &mut [u64],
+)
+    requires { ⌜ Known (now cells) (now bodies) × (length (now wanted) ≡ 4)
+        × Filling (now cells) (now bodies) (now wanted) 0 (now sizes) (now masks) (now prefixes)
+        × HeldAlways (now cells) (now bodies) (now held) ⌝ }
+    ensures { λ _. ⌜ Filling (now (cells .entry)) (now (bodies .entry)) (now (wanted .entry)) (length (now (cells .entry)))
+        (now (sizes .exit)) (now (masks .exit)) (now (prefixes .exit)) ⌝ }
+{
+    let mut p: usize = 0;
+    while p < cells.len() {
+        fill_if(cells, bodies, held, wanted, p, sizes, masks, prefixes);
+        p = p + 1;
+    }
+}
+
+// ---- with families of bodies held
+
+// The same for every place of a set, with the families of the bodies of the first recs, as many as there is room for.
+fn fill_with(
+    cells: &[u32],
+    bodies: &[u16],
+    held: &mut [u64],
+    wanted: &[u64],
+    sizes: &mut [u8],
+    masks: &mut [u16],
+    prefixes: &mut [u64],
+)
+    requires { ⌜ Known (now cells) (now bodies) × (length (now held) ≤ 256 * length (now bodies)) × (length (now wanted) ≡ 4)
+        × Filling (now cells) (now bodies) (now wanted) 0 (now sizes) (now masks) (now prefixes) ⌝ }
+    ensures { λ _. ⌜ Filling (now (cells .entry)) (now (bodies .entry)) (now (wanted .entry)) (length (now (cells .entry)))
+        (now (sizes .exit)) (now (masks .exit)) (now (prefixes .exit)) ⌝ }
+{
+    text_ready::hold_bodies(cells, bodies, held);
+    fill_wanted(cells, bodies, held, wanted, sizes, masks, prefixes);
+}
+
+// Of how many recs the families of bodies are held: eight at most.
+fn recs_held(recs: usize) -> usize
+    ensures { λ r. ⌜ (r ≤ recs) × (r ≤ 8) ⌝ }
+{
+    if recs < MOST { recs } else { MOST }
+}
+
+// The same for every place of a set, with room for the families of the bodies of eight recs.
+fn fill_held(
     cells: &[u32],
     bodies: &[u16],
     wanted: &[u64],
@@ -108,11 +172,17 @@ fn fill_wanted(
     ensures { λ _. ⌜ Filling (now (cells .entry)) (now (bodies .entry)) (now (wanted .entry)) (length (now (cells .entry)))
         (now (sizes .exit)) (now (masks .exit)) (now (prefixes .exit)) ⌝ }
 {
-    let mut p: usize = 0;
-    while p < cells.len() {
-        fill_if(cells, bodies, wanted, p, sizes, masks, prefixes);
-        p = p + 1;
-    }
+    let mut held = [0u64; 2048];
+    let n = recs_held(bodies.len());
+    fill_with(
+        cells,
+        bodies,
+        &mut held[0..WORDS * n],
+        wanted,
+        sizes,
+        masks,
+        prefixes,
+    );
 }
 
 // The places that can be in a state, and what is kept of each.
@@ -132,5 +202,9 @@ pub fn fill_places(
 {
     let mut wanted = [0u64; 4];
     want(cells, bodies, first, &mut wanted);
-    fill_wanted(cells, bodies, &wanted, sizes, masks, prefixes);
+    if bodies.len() < FEW {
+        fill_wanted(cells, bodies, &[], &wanted, sizes, masks, prefixes);
+    } else {
+        fill_held(cells, bodies, &wanted, sizes, masks, prefixes);
+    }
 }

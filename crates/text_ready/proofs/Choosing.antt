@@ -15,7 +15,7 @@ use Rattle.families.specs.Families.{inFamily}
 use Rattle.text.specs.Places.{Sense}
 use Rattle.text.specs.Cells.{Ends, Explained, cellAt, unpacked}
 use Rattle.text_ready.specs.Joined.{Family, Union, Absorbs}
-use Rattle.text_ready.specs.Ready.{Choice, readyBy, Settled, JoinedBy, Added}
+use Rattle.text_ready.specs.Ready.{Choice, Held, readyBy, Settled, JoinedBy, Added}
 use Rattle.text_ready.proofs.Joins.{absorbs-either}
 use Rattle.text.proofs.Ends.{weight, lighter, Parts, to-parts}
 use Rattle.text_ready.proofs.Settled.{ready-place}
@@ -63,17 +63,18 @@ none-absorbs l m h = ((λ t. absurd (none-in m h t)), λ u. absurd (none-in (u .
 
 -- ---- going along
 
-module _ (cells bodies : List ℕ) where
+module _ (cells bodies held : List ℕ) where
   -- Parts are united up to a link, which is left.
   pub record Choosing (place bound recs : ℕ) (start all : List ℕ) (kept at : ℕ) : Type 0 where
     pub room : length all ≡ 256
     pub ends : Ends cells bodies bound at
     pub falls : weight at ≤ weight place
-    pub whole : (senses : List Sense) → Explained cells bodies senses → Settled cells bodies senses (inFamily start) recs
-        → (m : ℕ) → m < 16384
+    pub whole : (senses : List Sense) → Explained cells bodies senses → Held cells bodies senses held
+        → Settled cells bodies senses (inFamily start) recs → (m : ℕ) → m < 16384
         → Union (inFamily start) (readyBy cells bodies senses place) m
         ↔ (T (inFamily all m) ⊎ Union (inFamily start) (readyBy cells bodies senses at) m)
-    pub settled : (senses : List Sense) → Explained cells bodies senses → Settled cells bodies senses (inFamily start) recs
+    pub settled : (senses : List Sense) → Explained cells bodies senses → Held cells bodies senses held
+        → Settled cells bodies senses (inFamily start) recs
         → Settled cells bodies senses (inFamily all) kept
 
   pub choosing-none : (place bound recs kept : ℕ) {start : List ℕ} → Ends cells bodies bound place
@@ -82,25 +83,27 @@ module _ (cells bodies : List ℕ) where
     room = length-replicate {A = ℕ} 256 0;
     ends = ends;
     falls = omega arith;
-    whole = λ senses x s m h. ((λ u. inr u), λ e. ⊎-elim (λ t. absurd (none-in m h t)) (λ u. u) e);
-    settled = λ senses x s r h t. none-absorbs (readyBy cells bodies senses (256 + r));
+    whole = λ senses x k s m h. ((λ u. inr u), λ e. ⊎-elim (λ t. absurd (none-in m h t)) (λ u. u) e);
+    settled = λ senses x k s r h t. none-absorbs (readyBy cells bodies senses (256 + r));
   }
 
   module _ {place bound recs : ℕ} {start all : List ℕ} {kept at : ℕ} (known : Choosing place bound recs start all kept at)
-      {link : ℕ} {all′ : List ℕ} {kept′ : ℕ} (part : Added cells bodies link recs start all all′ kept kept′) where
-    keeps-settled : (senses : List Sense) → Explained cells bodies senses → Settled cells bodies senses (inFamily start) recs
+      {link : ℕ} {all′ : List ℕ} {kept′ : ℕ} (part : Added cells bodies held link recs start all all′ kept kept′) where
+    keeps-settled : (senses : List Sense) → Explained cells bodies senses → Held cells bodies senses held
+        → Settled cells bodies senses (inFamily start) recs
         → Settled cells bodies senses (inFamily all′) kept′
-    keeps-settled senses x s r h t =
-        let added = part .added senses x s in
+    keeps-settled senses x k s r h t =
+        let added = part .added senses x k s in
         let kept-both = added .3 r h t in
-        absorbs-either (inFamily all) (added .0) (inFamily all′) _ (known .settled senses x s r h (kept-both .0)) (kept-both .1) (added .2)
+        absorbs-either (inFamily all) (added .0) (inFamily all′) _ (known .settled senses x k s r h (kept-both .0)) (kept-both .1)
+        (added .2)
 
     -- in what is united: it was before, or it is of the part that was added
-    from-all : (senses : List Sense) → Explained cells bodies senses → Settled cells bodies senses (inFamily start) recs
-        → (m : ℕ) → m < 16384
+    from-all : (senses : List Sense) → Explained cells bodies senses → Held cells bodies senses held
+        → Settled cells bodies senses (inFamily start) recs → (m : ℕ) → m < 16384
         → T (inFamily all′ m) ↔ (T (inFamily all m) ⊎ Union (inFamily start) (readyBy cells bodies senses link) m)
-    from-all senses x s m h =
-        let added = part .added senses x s in (
+    from-all senses x k s m h =
+        let added = part .added senses x k s in (
           (λ t.
               ⊎-elim {C = T (inFamily all m) ⊎ Union (inFamily start) (readyBy cells bodies senses link) m} (λ y. inl y)
               (λ y. inr (added .1 m h .0 y))
@@ -114,13 +117,13 @@ module _ (cells bodies : List ℕ) where
 
   -- the last part: what is united is the whole
   pub choosing-ends : {place bound recs : ℕ} {start all : List ℕ} {kept at : ℕ} → Choosing place bound recs start all kept at
-      → {all′ : List ℕ} {kept′ : ℕ} → Added cells bodies at recs start all all′ kept kept′
-      → JoinedBy cells bodies place recs start all′ kept′
+      → {all′ : List ℕ} {kept′ : ℕ} → Added cells bodies held at recs start all all′ kept kept′
+      → JoinedBy cells bodies held place recs start all′ kept′
   choosing-ends known part = record {
     room = part .room;
-    joined = λ senses x s m h.
-        let w = known .whole senses x s m h in
-        let a = from-all known part senses x s m h in
+    joined = λ senses x k s m h.
+        let w = known .whole senses x k s m h in
+        let a = from-all known part senses x k s m h in
         ((λ t. w .1 (a .0 t)), λ u. a .1 (w .0 u));
     settled = keeps-settled known part;
   }
@@ -138,20 +141,21 @@ module _ (cells bodies : List ℕ) where
 
   -- one part more
   module _ {place bound recs : ℕ} {start all : List ℕ} {kept at : ℕ} (known : Choosing place bound recs start all kept at)
-      (choice : Choice cells at) (small : at < 256) {all′ : List ℕ} {kept′ left right : ℕ} (is-left : left ≡ unpacked (getD cells at 0) .left)
-      (is-right : right ≡ unpacked (getD cells at 0) .right) (part : Added cells bodies right recs start all all′ kept kept′) where
-    whole-more : (senses : List Sense) → Explained cells bodies senses → Settled cells bodies senses (inFamily start) recs
-        → (m : ℕ) → m < 16384
+      (choice : Choice cells at) (small : at < 256) {all′ : List ℕ} {kept′ left right : ℕ}
+      (is-left : left ≡ unpacked (getD cells at 0) .left) (is-right : right ≡ unpacked (getD cells at 0) .right)
+      (part : Added cells bodies held right recs start all all′ kept kept′) where
+    whole-more : (senses : List Sense) → Explained cells bodies senses → Held cells bodies senses held
+        → Settled cells bodies senses (inFamily start) recs → (m : ℕ) → m < 16384
         → Union (inFamily start) (readyBy cells bodies senses place) m
         ↔ (T (inFamily all′ m) ⊎ Union (inFamily start) (readyBy cells bodies senses left) m)
-    whole-more senses x s m h =
+    whole-more senses x k s m h =
         let F = inFamily start in
         let by = readyBy cells bodies senses in
         let parts : by at ≡ by left ++ by right =
         both-parts senses at x choice small ∙ sym (ap (λ (y : ℕ). by y ++ by (unpacked (getD cells at 0) .right)) is-left)
         ∙ sym (ap (λ (y : ℕ). by left ++ by y) is-right) in
-        let w = subst (λ (l : List ℕ). Union F (by place) m ↔ (T (inFamily all m) ⊎ Union F l m)) parts (known .whole senses x s m h) in
-        regroup F (by left) (by right) m w (from-all known part senses x s m h)
+        let w = subst (λ (l : List ℕ). Union F (by place) m ↔ (T (inFamily all m) ⊎ Union F l m)) parts (known .whole senses x k s m h) in
+        regroup F (by left) (by right) m w (from-all known part senses x k s m h)
 
     pub choosing-more : Choosing place bound recs start all′ kept′ left
     choosing-more = let parts = parts-of (known .ends) choice small in record {

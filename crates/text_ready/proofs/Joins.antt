@@ -3,7 +3,8 @@
 -- Assumes nothing.
 use mathlib.Core.Path.{_≡_, refl, ap, sym, subst, subst⁻¹, _∙_}
 use mathlib.Core.Logic.{_⊎_, inl, inr, ⊎-elim}
-use mathlib.Core.List.{List, [], _∷_, _++_, List·Memᴰ·head, List·Memᴰ·eq-of-singleton, Memᴰ·append-left, Memᴰ·append-right, List·Memᴰ·append-cases}
+use mathlib.Core.List.{List, [], _∷_, _++_, List·Memᴰ·head, List·Memᴰ·eq-of-singleton}
+use mathlib.Core.List.{Memᴰ·append-left, Memᴰ·append-right, List·Memᴰ·append-cases}
 use Prim.Native.Nat.{ℕ, _<_}
 use native.Mathlib.Omega.{arith}
 use lib.Dec.{T}
@@ -21,7 +22,7 @@ use Rattle.text_ready.specs.Joined.{Family, Union, Joined, Absorbs, Unit
 left-small : (a b m : ℕ) → m < 16384 → m ≡ bitOr a b → a < 16384
 left-small a b m h e = let k = or-add-and a b in let l = and-le-r a b in omega (arith, e, k, l, h)
 
-right-small : (a b m : ℕ) → m < 16384 → m ≡ bitOr a b → b < 16384
+pub right-small : (a b m : ℕ) → m < 16384 → m ≡ bitOr a b → b < 16384
 right-small a b m h e = left-small b a m h (e ∙ or-comm a b)
 
 or-of : (a b c j : ℕ) → T (has a j) ⊎ (T (has b j) ⊎ T (has c j)) → T (has (bitOr (bitOr a b) c) j)

@@ -1,7 +1,7 @@
 -- The ready sets of a place are masks, and the family that holds only the empty mask, joined with them, holds these and no others.
 -- Assumes nothing.
 use mathlib.Core.Path.{_≡_, sym, ap, subst, subst⁻¹, _∙_}
-use mathlib.Core.Logic.{⊎-elim}
+use mathlib.Core.Logic.{_↔_, ⊎-elim}
 use mathlib.Core.List.{List, [], _∷_, _++_, List·Memᴰ, List·Memᴰ·eq-of-singleton, List·Memᴰ·append-cases}
 use Prim.Native.Nat.{ℕ, zero, suc, _<_, _≤_}
 use native.Mathlib.Omega.{arith}
@@ -19,8 +19,8 @@ use Rattle.nodes.proofs.Sets.{not-in-none, sorted-intro, sorted-elim, sorted-as
 use Rattle.families.specs.Families.{inFamily, masksOf}
 use Rattle.text.specs.Places.{Sense, senseAt}
 use Rattle.text.specs.Cells.{Ends, at-end, at-prefix, at-choice, at-variable, Explained, cellAt, unpacked}
-use Rattle.text_ready.specs.Joined.{Union, Joined}
-use Rattle.text_ready.specs.Ready.{readyBy, JoinedBy}
+use Rattle.text_ready.specs.Joined.{Union}
+use Rattle.text_ready.specs.Ready.{Holds, Held, readyBy, JoinedBy}
 use Rattle.text_ready.proofs.Settled.{ready-place, ready-body}
 
 -- ---- ready sets are masks
@@ -46,7 +46,8 @@ kind-small x = omega arith
 
 module _ (cells bodies : List ℕ) (senses : List Sense) (x : Explained cells bodies senses) where
   choice-small : (p : ℕ) → 0 < p → p < 256 → p < length cells → 14 ≤ cellAt cells bodies p .kind
-      → Small (readyBy cells bodies senses (cellAt cells bodies p .left)) → Small (readyBy cells bodies senses (cellAt cells bodies p .right))
+      → Small (readyBy cells bodies senses (cellAt cells bodies p .left))
+      → Small (readyBy cells bodies senses (cellAt cells bodies p .right))
       → Small (readyBy cells bodies senses p)
   unfolding cellAt readyBy
   choice-small p some small inside choice l r =
@@ -74,38 +75,43 @@ unfolding upto
 upto-ascends first zero = tt
 upto-ascends first (suc count) = (omega arith, upto-ascends (suc first) count)
 
-module _ (cells bodies : List ℕ) (place : ℕ) {bound recs′ : ℕ} {family family′ : List ℕ} (ends : Ends cells bodies bound place)
-    (small : place < 256) (only : (m : ℕ) → m < 16384 → inFamily family m ≡ eqb m 0)
-    (joined : JoinedBy cells bodies place 0 family family′ recs′) (senses : List Sense) (x : Explained cells bodies senses) where
-  ready : List ℕ
-  ready = senseAt senses place .ready
+-- the masks of a family that holds a list, in order
+masks-held : (family l : List ℕ) → Holds family l → Small l → masksOf family ≡ sorted l
+unfolding masksOf
+masks-held family l holds small =
+    ascending-same 0 0 (masksOf family) (sorted l) (keep-ascends (inFamily family) 0 (upto 0 16384) (upto-ascends 0 16384))
+    (sorted-ascends l)
+    (λ m q. let w = keep-elim (inFamily family) m (upto 0 16384) q in sorted-intro (holds m (upto-mem 16384 0 m (w .0)) .0 (w .1)))
+    (λ m q.
+    let i = sorted-elim m l q in
+    let h = small m i in
+    keep-intro (inFamily family) (mem-upto 16384 0 m (omega arith) h) (holds m h .1 i))
 
-  union : Joined (inFamily family) ready (inFamily family′)
-  unfolding ready
-  union =
-      subst (λ (l : List ℕ). Joined (inFamily family) l (inFamily family′)) (ready-place cells bodies senses place small)
-      (joined .joined senses x (λ r h t. absurd (not-in-none r t)))
+module _ (cells bodies held : List ℕ) {link bound recs′ : ℕ} {family family′ : List ℕ} (ends : Ends cells bodies bound link)
+    (only : (m : ℕ) → m < 16384 → inFamily family m ≡ eqb m 0) (joined : JoinedBy cells bodies held link 0 family family′ recs′)
+    (senses : List Sense) (x : Explained cells bodies senses) (k : Held cells bodies senses held) where
+  -- the empty mask alone, joined with ready sets: these and no others
+  pub holds-ready : Holds family′ (readyBy cells bodies senses link)
+  holds-ready m h = (there, back)
+    where
+      ready : List ℕ
+      ready = readyBy cells bodies senses link
 
-  in-ready : (m : ℕ) → List·Memᴰ m (masksOf family′) → List·Memᴰ m (sorted ready)
-  unfolding masksOf
-  in-ready m q =
-      let w = keep-elim (inFamily family′) m (upto 0 16384) q in
-      let u = union m (upto-mem 16384 0 m (w .0)) .0 (w .1) in
-      let none : u .0 ≡ 0 = eqb→eq (u .0) 0 (subst T (only (u .0) (u .2)) (u .3)) in
-      let e : m ≡ u .1 = u .5 ∙ ap (λ (f : ℕ). bitOr f (u .1)) none ∙ or-zero-l (u .1) in
-      sorted-intro (subst⁻¹ (λ (y : ℕ). List·Memᴰ y ready) e (u .4))
+      union : T (inFamily family′ m) ↔ Union (inFamily family) ready m
+      union = joined .joined senses x k (λ r h t. absurd (not-in-none r t)) m h
 
-  in-family : (m : ℕ) → List·Memᴰ m (sorted ready) → List·Memᴰ m (masksOf family′)
-  unfolding masksOf ready
-  in-family m q =
-      let i = sorted-elim m ready q in
-      let h = subst (λ (l : List ℕ). (n : ℕ) → List·Memᴰ n l → n < 16384) (ready-place cells bodies senses place small)
-      (ready-small cells bodies senses x ends) m i in
-      let u : Union (inFamily family) ready m = (0, m, omega arith, subst⁻¹ T (only 0 (omega arith)) tt, i, sym (or-zero-l m)) in
-      keep-intro (inFamily family′) (mem-upto 16384 0 m (omega arith) h) (union m h .1 u)
+      there : T (inFamily family′ m) → List·Memᴰ m ready
+      there t =
+          let u = union .0 t in
+          let none : u .0 ≡ 0 = eqb→eq (u .0) 0 (subst T (only (u .0) (u .2)) (u .3)) in
+          let e : m ≡ u .1 = u .5 ∙ ap (λ (f : ℕ). bitOr f (u .1)) none ∙ or-zero-l (u .1) in
+          subst⁻¹ (λ (y : ℕ). List·Memᴰ y ready) e (u .4)
 
-  pub masks-are-ready : masksOf family′ ≡ sorted (senseAt senses place .ready)
-  unfolding masksOf ready
-  masks-are-ready =
-      ascending-same 0 0 (masksOf family′) (sorted ready) (keep-ascends (inFamily family′) 0 (upto 0 16384) (upto-ascends 0 16384))
-      (sorted-ascends ready) in-ready in-family
+      back : List·Memᴰ m ready → T (inFamily family′ m)
+      back i = union .1 (0, m, omega arith, subst⁻¹ T (only 0 (omega arith)) tt, i, sym (or-zero-l m))
+
+  -- so its masks in order are the ready sets in order
+  pub masks-are-ready : link < 256 → masksOf family′ ≡ sorted (senseAt senses link .ready)
+  masks-are-ready small =
+      subst (λ (l : List ℕ). masksOf family′ ≡ sorted l) (ready-place cells bodies senses link small)
+      (masks-held family′ _ holds-ready (ready-small cells bodies senses x ends))

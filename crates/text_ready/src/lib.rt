@@ -1,9 +1,10 @@
-// The ready sets of a place, told the cells of all places: a family of masks is joined with each part in turn, so that no two families are
-// ever combined. Request 7/13, "ready sets of + are all unions of one from each side".
+// The ready sets of a place, told the cells of all places: a family of masks is joined with each part in turn. The families of the bodies
+// of the first recs are made once and held: where one of these bodies is met, the family is joined with the one that is held. Request 7/13,
+// "ready sets of + are all unions of one from each side".
 ghost use mathlib.Core.Path.{_≡_};
 ghost use mathlib.Core.List.{List};
-ghost use Prim.Native.Nat.{_+_, _^_, _≤_, _<_, min};
-ghost use lib.ListN.{length, take};
+ghost use Prim.Native.Nat.{ℕ, _+_, _*_, _^_, _≤_, _<_, min};
+ghost use lib.ListN.{length, take, getD};
 ghost use lib.Dec.{T};
 ghost use lib.Bits.{bitOr};
 ghost use Rattle.model.specs.Contract.{has};
@@ -11,10 +12,13 @@ ghost use Rattle.little_endian.specs.Front.{front};
 ghost use Rattle.nodes.specs.Sets.{sorted};
 ghost use Rattle.text.specs.Places.{Sense, senseAt};
 ghost use Rattle.text.specs.Cells.{Ends, Explained, unpacked};
-ghost use Rattle.text_ready.specs.Ready.{Choice, JoinedBy, Added};
+ghost use Rattle.text_ready.specs.Ready.{Choice, Held, HeldAlways, HeldMore, JoinedBy, Added};
 
 // Above all places: a link from here on leads to the body of a rec.
 const PLACES: u16 = 256;
+
+// Numbers in a family.
+const WORDS: usize = 256;
 
 // ---- cells
 
@@ -74,18 +78,47 @@ fn with_rec(recs: u64, r: usize) -> u64
 
 // ---- joining
 
-// The body of a rec joined with a family, unless it is known to change nothing. Notes if it changed nothing.
-fn join_body(cells: &[u32], bodies: &[u16], r: usize, family: &mut [u64], recs: u64) -> u64
+// The body of a rec joined with a family: at once, if the family of the body is held.
+fn join_rec(
+    cells: &[u32],
+    bodies: &[u16],
+    held: &[u64],
+    r: usize,
+    family: &mut [u64],
+    recs: u64,
+) -> u64
     requires { ⌜ (length (now bodies) ≤ 64) × (length (now cells) ≤ 256) × (length (now family) ≡ 256)
         × Ends (now cells) (now bodies) (r + 1) (256 + r) ⌝ }
-    ensures { λ a. ⌜ JoinedBy (now (cells .entry)) (now (bodies .entry)) (256 + r) recs (now (family .entry)) (now (family .exit)) a ⌝ }
+    ensures { λ a. ⌜ JoinedBy (now (cells .entry)) (now (bodies .entry)) (now (held .entry)) (256 + r) recs (now (family .entry))
+        (now (family .exit)) a ⌝ }
+{
+    if r < held.len() / WORDS {
+        families::join(family, &held[WORDS * r..WORDS * r + WORDS]);
+        return recs;
+    }
+    join(cells, bodies, held, bodies[r], r, family, recs)
+}
+
+// The same, unless it is known to change nothing. Notes if it changed nothing.
+fn join_body(
+    cells: &[u32],
+    bodies: &[u16],
+    held: &[u64],
+    r: usize,
+    family: &mut [u64],
+    recs: u64,
+) -> u64
+    requires { ⌜ (length (now bodies) ≤ 64) × (length (now cells) ≤ 256) × (length (now family) ≡ 256)
+        × Ends (now cells) (now bodies) (r + 1) (256 + r) ⌝ }
+    ensures { λ a. ⌜ JoinedBy (now (cells .entry)) (now (bodies .entry)) (now (held .entry)) (256 + r) recs (now (family .entry))
+        (now (family .exit)) a ⌝ }
 {
     if has_rec(recs, r) {
         return recs;
     }
     let mut before = [0u64; 256];
     families::copy(family, &mut before);
-    let then = join(cells, bodies, bodies[r], r, family, recs);
+    let then = join_rec(cells, bodies, held, r, family, recs);
     if families::same(&before, family) {
         with_rec(then, r)
     } else {
@@ -97,6 +130,7 @@ fn join_body(cells: &[u32], bodies: &[u16], r: usize, family: &mut [u64], recs: 
 fn add_part(
     cells: &[u32],
     bodies: &[u16],
+    held: &[u64],
     link: u16,
     bound: usize,
     start: &[u64],
@@ -106,11 +140,12 @@ fn add_part(
 ) -> u64
     requires { ⌜ (length (now bodies) ≤ 64) × (length (now cells) ≤ 256) × (length (now start) ≡ 256) × (length (now all) ≡ 256)
         × Ends (now cells) (now bodies) bound link ⌝ }
-    ensures { λ a. ⌜ Added (now (cells .entry)) (now (bodies .entry)) link recs (now (start .entry)) (now (all .entry)) (now (all .exit)) kept a ⌝ }
+    ensures { λ a. ⌜ Added (now (cells .entry)) (now (bodies .entry)) (now (held .entry)) link recs (now (start .entry))
+        (now (all .entry)) (now (all .exit)) kept a ⌝ }
 {
     let mut part = [0u64; 256];
     families::copy(start, &mut part);
-    let then = join(cells, bodies, link, bound, &mut part, recs);
+    let then = join(cells, bodies, held, link, bound, &mut part, recs);
     families::unite(all, &part);
     kept & then
 }
@@ -119,6 +154,7 @@ fn add_part(
 fn join_choice(
     cells: &[u32],
     bodies: &[u16],
+    held: &[u64],
     place: u16,
     bound: usize,
     family: &mut [u64],
@@ -126,7 +162,8 @@ fn join_choice(
 ) -> u64
     requires { ⌜ (length (now bodies) ≤ 64) × (length (now cells) ≤ 256) × (length (now family) ≡ 256)
         × Ends (now cells) (now bodies) bound place × Choice (now cells) place ⌝ }
-    ensures { λ a. ⌜ JoinedBy (now (cells .entry)) (now (bodies .entry)) place recs (now (family .entry)) (now (family .exit)) a ⌝ }
+    ensures { λ a. ⌜ JoinedBy (now (cells .entry)) (now (bodies .entry)) (now (held .entry)) place recs (now (family .entry))
+        (now (family .exit)) a ⌝ }
 {
     let mut start = [0u64; 256];
     families::copy(family, &mut start);
@@ -138,6 +175,7 @@ fn join_choice(
         kept = add_part(
             cells,
             bodies,
+            held,
             right_of(cell),
             bound,
             &start,
@@ -147,7 +185,7 @@ fn join_choice(
         );
         at = left_of(cell);
     }
-    kept = add_part(cells, bodies, at, bound, &start, recs, &mut all, kept);
+    kept = add_part(cells, bodies, held, at, bound, &start, recs, &mut all, kept);
     families::copy(&all, family);
     kept
 }
@@ -156,6 +194,7 @@ fn join_choice(
 fn join(
     cells: &[u32],
     bodies: &[u16],
+    held: &[u64],
     link: u16,
     bound: usize,
     family: &mut [u64],
@@ -163,10 +202,11 @@ fn join(
 ) -> u64
     requires { ⌜ (length (now bodies) ≤ 64) × (length (now cells) ≤ 256) × (length (now family) ≡ 256)
         × Ends (now cells) (now bodies) bound link ⌝ }
-    ensures { λ a. ⌜ JoinedBy (now (cells .entry)) (now (bodies .entry)) link recs (now (family .entry)) (now (family .exit)) a ⌝ }
+    ensures { λ a. ⌜ JoinedBy (now (cells .entry)) (now (bodies .entry)) (now (held .entry)) link recs (now (family .entry))
+        (now (family .exit)) a ⌝ }
 {
     if PLACES <= link {
-        return join_body(cells, bodies, (link - PLACES) as usize, family, recs);
+        return join_body(cells, bodies, held, (link - PLACES) as usize, family, recs);
     }
     if link == 0 {
         return recs;
@@ -178,22 +218,61 @@ fn join(
         return recs;
     }
     if kind == 15 {
-        return join_choice(cells, bodies, link, bound, family, recs);
+        return join_choice(cells, bodies, held, link, bound, family, recs);
     }
-    let then = join(cells, bodies, left_of(cell), bound, family, recs);
-    join(cells, bodies, right_of(cell), bound, family, then)
+    let then = join(cells, bodies, held, left_of(cell), bound, family, recs);
+    join(cells, bodies, held, right_of(cell), bound, family, then)
 }
 
+// ---- the bodies of the first recs
+
+// The family of the body of rec r, put behind those of the recs before it.
+fn hold_body(cells: &[u32], bodies: &[u16], r: usize, held: &mut [u64])
+    requires { ⌜ (length (now bodies) ≤ 64) × (length (now cells) ≤ 256) × (256 * (r + 1) ≤ length (now held)) × (r < length (now bodies))
+        × Ends (now cells) (now bodies) r (getD (now bodies) r 0) ⌝ }
+    ensures { λ _. ⌜ HeldMore (now (cells .entry)) (now (bodies .entry)) r (now (held .entry)) (now (held .exit)) ⌝ }
+{
+    let mut family = [0u64; 256];
+    families::only_empty(&mut family);
+    join(
+        cells,
+        bodies,
+        &held[0..WORDS * r],
+        bodies[r],
+        r,
+        &mut family,
+        0,
+    );
+    families::copy(&family, &mut held[WORDS * r..WORDS * r + WORDS]);
+}
+
+// The families of the bodies of the first recs, as many as there is room for. A body leads only to recs before its own.
+pub fn hold_bodies(cells: &[u32], bodies: &[u16], held: &mut [u64])
+    requires { ⌜ (length (now bodies) ≤ 64) × (length (now cells) ≤ 256) × (length (now held) ≤ 256 * length (now bodies))
+        × ((r : ℕ) → r < length (now bodies) → Ends (now cells) (now bodies) r (getD (now bodies) r 0)) ⌝ }
+    ensures { λ _. ⌜ (length (now (held .exit)) ≡ length (now (held .entry)))
+        × HeldAlways (now (cells .entry)) (now (bodies .entry)) (now (held .exit)) ⌝ }
+{
+    let mut r: usize = 0;
+    while r < held.len() / WORDS {
+        hold_body(cells, bodies, r, held);
+        r = r + 1;
+    }
+}
+
+// ---- the ready sets of a place
+
 // The ready sets of a place, ascending, eight of them at most. Gives how many there are, 9 if more than eight.
-pub fn put_ready(cells: &[u32], bodies: &[u16], place: u16, out: &mut [u16]) -> u8
+pub fn put_ready(cells: &[u32], bodies: &[u16], held: &[u64], place: u16, out: &mut [u16]) -> u8
     requires { ⌜ (length (now bodies) ≤ 64) × (length (now cells) ≤ 256) × (8 ≤ length (now out)) × (place < 256)
         × Ends (now cells) (now bodies) (length (now bodies)) place ⌝ }
     ensures { λ r. ⌜ ((senses : List Sense) → Explained (now (cells .entry)) (now (bodies .entry)) senses
+        → Held (now (cells .entry)) (now (bodies .entry)) senses (now (held .entry))
         → (r ≡ min 9 (length (sorted (senseAt senses place .ready))))
         × (now (out .exit) ≡ front (take 8 (sorted (senseAt senses place .ready))) (now (out .entry)))) ⌝ }
 {
     let mut family = [0u64; 256];
     families::only_empty(&mut family);
-    join(cells, bodies, place, bodies.len(), &mut family, 0);
+    join(cells, bodies, held, place, bodies.len(), &mut family, 0);
     families::masks(&family, out)
 }

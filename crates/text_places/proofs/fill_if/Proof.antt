@@ -15,9 +15,9 @@ has-place-requires c κs = search needs
 
 fill-place-requires : tie.Need-fill-place-requires
 fill-place-requires c κs =
-    let s = c .before .before .before .before .before .before .before .before .before .before .before in
+    let s = c .before .before .before .before .before .before .before .before .before .before .before .before in
     let is = s .pre .3 in
-    (s .pre .0, s .pre .1, is .rooms, is .clear (s .args .p) (omega arith))
+    (s .pre .0, s .pre .1, is .rooms, is .clear (s .args .p) (omega arith), s .pre .4)
 
 same-length : tie.Need-same-length
 same-length c = search needs
@@ -30,12 +30,13 @@ same-length-3 c = search needs
 
 returns : tie.Need-returns
 returns c =
-    let s = c .before .before .before .before .before .before .before .before .before .before .before .before .before .before .before .before .before .before in
+    let early = c .before .before .before .before .before .before .before .before .before .before in
+    let s = early .before .before .before .before .before .before .before .before .before in
     filling-more _ _ (s .pre .3) (c .before .before .before .before .before .before .fill-place .ensures)
 
 returns-2 : tie.Need-returns-2
 returns-2 c =
-    let s = c .before .before .before .before .before .before .before .before in
+    let s = c .before .before .before .before .before .before .before .before .before in
     filling-skip _ _ (s .pre .3) (sym (c .before .has-place .ensures) ∙ c .if1 .left)
 
 pub fill-if-spec : {M : Type 1} → statement M

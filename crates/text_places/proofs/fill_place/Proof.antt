@@ -29,7 +29,7 @@ part-put-ready-end c = search needs
 
 put-ready-requires : tie.Need-put-ready-requires
 put-ready-requires c κs =
-    let s = c .before .before .before .before .before .before in
+    let s = c .before .before .before .before .before .before .before in
     let known = s .pre .0 in
     let few = known .explained .few in (
       known .recs,
@@ -68,7 +68,7 @@ part-put-prefixes-end c = search needs
 
 put-prefixes-requires : tie.Need-put-prefixes-requires
 put-prefixes-requires c κs =
-    let s = c .before .before .before .before .before .before .before .before .before .before in
+    let s = c .before .before .before .before .before .before .before .before .before .before .before in
     let known = s .pre .0 in
     let few = known .explained .few in (
       known .explained .ends (s .args .p) (s .pre .1),
@@ -90,10 +90,11 @@ same-length-3 c = search needs
 
 returns : tie.Need-returns
 returns c =
-    let s = c .before .before .before .before .before .before .before .before .before .before .before .before .before in
+    let s = c .before .before .before .before .before .before .before .before .before .before .before .before .before .before in
     let rooms = s .pre .2 in
     let few = s .pre .0 .explained .few in
-    filled _ _ (s .args .p) _ _ _ _ _ _ (omega arith) rooms (c .before .before .before .before .before .before .put-ready .ensures)
+    let put = c .before .before .before .before .before .before .put-ready .ensures in
+    filled _ _ (s .args .p) _ _ _ _ _ _ (omega arith) rooms (λ senses x. put senses x (s .pre .4 senses x))
     (c .before .before .put-prefixes .ensures)
     (record {
       sizes-room = same-length c ∙ rooms .sizes-room;

@@ -33,13 +33,14 @@ same-length c = search needs
 
 returns : tie.Need-returns
 returns c =
-    let s = c .before .before .before .before .before .before .before .before .before .before .before .before .before .before in
+    let early = c .before .before .before .before .before .before .before .before .before .before in
+    let s = early .before .before .before .before .before in
     let a = s .args in
     let written = c .before .before .masks .ensures in
-    λ senses x.
+    λ senses x k.
     let family = c .before .before .before .before .before .before .before .before .before .only-empty .ensures in
     let joined = c .before .before .before .before .before .before .join .ensures in
-    let e = masks-are-ready (a .cells .now) (a .bodies .now) (a .place) (s .pre .4) (s .pre .3) (family .1) joined senses x in (
+    let e = masks-are-ready (a .cells .now) (a .bodies .now) (a .held .now) (s .pre .4) (family .1) joined senses x k (s .pre .3) in (
       written .0 ∙ ap (λ (l : List ℕ). min 9 (length l)) e,
       written .1 ∙ ap (λ (l : List ℕ). front (take 8 l) (a .out .now)) e,
     )
