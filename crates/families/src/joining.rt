@@ -64,7 +64,8 @@ fn unions_within(word: u64, other: u64, bits: u8) -> u64
 
 // Whether some numbers of a family have no mask.
 fn no_mask(words: &[u64]) -> bool
-    ensures { λ r. ⌜ (T r → (i : ℕ) → i < length (now (words .entry)) → getD (now (words .entry)) i 0 ≡ 0) ⌝ }
+    ensures { λ r. ⌜ (T r → (i : ℕ) → i < length (now (words .entry)) → getD (now (words .entry)) i 0 ≡ 0)
+        × (((i : ℕ) → i < length (now (words .entry)) → getD (now (words .entry)) i 0 ≡ 0) → T r) ⌝ }
 {
     let mut w = words.len();
     while w > 0 {

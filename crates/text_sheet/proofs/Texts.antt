@@ -26,7 +26,8 @@ use Rattle.text.specs.Cells.{packed, cellsIn, recsOf, linkTo, noOwners, cellNum
 use Rattle.text_reading.specs.Reading.{orNone, WholeRead, TextRead}
 use Rattle.text_reading.specs.declared.Read.{Read}
 use Rattle.text.proofs.Parse.{sound, read}
-use Rattle.text.proofs.Variables.{none-wrong, letter}
+use Rattle.text.proofs.Variables.{none-wrong}
+use Rattle.text.proofs.Uses.{first-fault, letter}
 use Rattle.text.proofs.Blanks.{place-inside, place-beyond}
 use Rattle.text.proofs.Widths.{few-places}
 use Rattle.text.proofs.Derived.{names-below, actions-below, few-recs}
@@ -175,8 +176,9 @@ module _ (s : List ℕ) (short : length s ≤ 256) {cells : List ℕ} {r : Read}
           → r .wrong ≡ orNone (wrongAt [] [] 0 t) → wrongAt [] [] 0 t ≡ none
       go t x is none e w = e
       go t x is (some i) e w =
-          let k = letter whole t (dropped s) i (read-derived s is) e in
-          absurd (omega (arith, k .2, dropped-short s short, sym right ∙ w ∙ ap orNone e))
+          let f = first-fault t i e in
+          let k = letter whole t (dropped s) (f .0) i (read-derived s is) (f .1 .here) in
+          absurd (omega (arith, k .0, dropped-short s short, sym right ∙ w ∙ ap orNone e))
 
   -- answers
   pub stopped-is : (out : List ℕ) → r .ok ≡ false → {a : SheetAnswer} → a ≡ refusing 22 → writtenBy a out ≡ textInto s out

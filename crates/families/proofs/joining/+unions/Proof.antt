@@ -134,7 +134,7 @@ no-mask-requires t c κs = tt
 returns : (t : ℕ) → lts.Need-returns (calls t) (unions-at t) unions.Post
 returns t c =
     let given = c .before .before .before .before .before .pre .1 in
-    let none = c .before .no-mask .ensures (subst T (sym (c .if1 .taken)) tt) in
+    let none = c .before .no-mask .ensures .0 (subst T (sym (c .if1 .taken)) tt) in
     (given .out-long, joined-none (inl (λ f u. no-masks _ none f (u .1))))
 
 no-mask-requires-2 : (t : ℕ) → lts.Need-no-mask-requires-2 (calls t) (unions-at t) unions.Post
@@ -143,7 +143,7 @@ no-mask-requires-2 t c κs = tt
 returns-2 : (t : ℕ) → lts.Need-returns-2 (calls t) (unions-at t) unions.Post
 returns-2 t c =
     let given = c .before .before .before .before .before .before .before .pre .1 in
-    let none = c .before .no-mask2 .ensures (subst T (sym (c .if2 .taken)) tt) in
+    let none = c .before .no-mask2 .ensures .0 (subst T (sym (c .if2 .taken)) tt) in
     (given .out-long, joined-none (inr (λ g u. no-masks _ none g (u .1))))
 
 slice-read-out : (t : ℕ) → lts.Need-slice-read-out (calls t) (unions-at t) unions.Post

@@ -2,7 +2,7 @@
 -- Assumes nothing.
 use mathlib.Core.Path.{_≡_}
 use mathlib.Core.List.{[]}
-use Prim.Native.Nat.{ℕ, _≤_, _<_}
+use Prim.Native.Nat.{ℕ, _-_, _≤_, _<_}
 use native.Mathlib.Omega.{arith}
 use lib.ListN.{length, getD}
 use Rattle.families.proofs.Families.{equal-more}
@@ -28,7 +28,7 @@ shared-slice-read-if1 : tie.Need-shared-slice-read-if1 Inv-loop μ-loop
 shared-slice-read-if1 c = omega arith
 
 returns : tie.Need-returns Inv-loop μ-loop
-returns c = λ t. absurd t
+returns c = ((λ t. absurd t), λ none. absurd (c .if1 .taken (none (c .before .before .before .loop .w - 1) (omega arith))))
 
 loop-less : tie.Need-loop-less Inv-loop μ-loop
 loop-less c = omega arith
@@ -40,7 +40,7 @@ loop-again c =
     (omega (arith, l .inv .0), equal-more words [] (l .w) (length words) (l .inv .1) (c .if1 .left))
 
 returns-2 : tie.Need-returns-2 Inv-loop μ-loop
-returns-2 c = λ t i h. c .before .loop .inv .1 i (omega arith) h
+returns-2 c = ((λ t i h. c .before .loop .inv .1 i (omega arith) h), λ none. tt)
 
 pub no-mask-spec : {M : Type 1} → statement M
 no-mask-spec =
