@@ -2,7 +2,7 @@
 // them. Request 7/13.
 ghost use mathlib.Core.Path.{_≡_};
 ghost use mathlib.Core.List.{List, []};
-ghost use Prim.Native.Nat.{ℕ, _+_, _-_, _*_, _≤_, _<_};
+ghost use Prim.Native.Nat.{min, ℕ, _+_, _-_, _*_, _≤_, _<_};
 ghost use lib.ListN.{length, getD};
 ghost use Rattle.place_sets.specs.PlaceSets.{numberOf, setAt};
 ghost use Rattle.text.specs.Places.{Sense};
@@ -153,7 +153,7 @@ fn fill_with(
 
 // Of how many recs the families of bodies are held: eight at most.
 fn recs_held(recs: usize) -> usize
-    ensures { λ r. ⌜ (r ≤ recs) × (r ≤ 8) ⌝ }
+    ensures { λ r. ⌜ r ≡ min 8 recs ⌝ }
 {
     if recs < MOST { recs } else { MOST }
 }
