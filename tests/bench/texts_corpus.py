@@ -12,7 +12,7 @@ from tests.reference.chance import Chance
 from tests.reference.framing import measured, number_bytes
 from tests.reference.sheets import LONGEST
 from tests.reference.text_cases import TERMS
-from tests.reference.text_limits import ALL, all_rows_long, halves, long_chains, prefixes, rings, slow
+from tests.reference.text_limits import ALL, SLOWEST, all_rows_long, halves, long_chains, nests, prefixes, rings, slow
 from tests.reference.text_random import any_variables, damaged, noise, sprinkled, whole, whole_choices, whole_large
 
 RANDOM_TEXTS = 4000
@@ -79,6 +79,8 @@ def classes():
         yield f"texts, large families, {actions}", [text]
     yield "texts, sums of sums", labelled(slow(), "sums of sums")
     yield "texts, two lists", labelled(slow(), "two lists")
+    yield "texts, recs one inside the other", labelled(nests(), "5 recs")
+    yield "texts, the slowest found", [SLOWEST]
     yield "texts, wide chains", [one.data.decode() for one in long_chains()]
     yield "texts, 64 states", [rings(7, 9)]
     yield "texts, 19 at the very end", [all_rows_long(4)]

@@ -272,6 +272,45 @@ def slow():
     yield framed("long rows", all_rows_long())
 
 
+def nest(levels, first, part):
+    """Recs one inside the other: each is a choice of what `part` makes of the
+    variable around it, as often as there is room, and behind an action the next."""
+
+    def made(count):
+        text, around = f"recX.({first}", "X"
+        for level in range(1, levels):
+            variable = "XYZ"[level % 3]
+            text += "(+)" + "(+)".join([part(around)] * count) + f"(+)a.rec{variable}.("
+            around = variable
+        return text + part(around) + ")" * levels
+
+    return max((made(count) for count in range(1, 60) if len(made(count)) <= 256), key=len)
+
+
+#: The slowest text that a search found by changing texts at random.
+SLOWEST = (
+    "recX.0(+)recX.(a(+)b(+)c(+)d(+)e(+)f(+)g(+)!a(+)!b(+)!c(+)!d(+)e(+)!e(+)!f(+)!g(+)a.recY.(X+(X(+)X)+"
+    "X+(X(+)X)+X(+)!c+(X(+)X)+X+X+X+X+X+X+X+X+X(+)a.recZ.(Y+Y+X(+)Y+Y+Y(+)Y(+)Y+X+Y+Y+Y+Y(+)Y+Y+Y+Y(+)a.r"
+    "ecX.(!d+Z+Z(+)d+Z+Z(+)Z+Z+b(+)Y+Y(+)Z+Z(+)(a(+)Z)+Z))))"
+)
+
+
+def nests():
+    parts = (lambda v: v, lambda v: f"{v}+{v}", lambda v: f"b+{v}", lambda v: f"{v}+{v}+{v}", lambda v: f"({v}(+)c)+{v}")
+    for levels in (2, 3, 4, 5):
+        for count in (2, 3, 9):
+            for part in parts:
+                yield framed(f"{levels} recs, one inside the other", nest(levels, choice(ALL[:count]), part))
+    for others in (1, 5, 6, 7, 8, 9, 12):
+        front = choice(f"rec {'XYZ'[place % 3]}.{'a' * (place % 2) or '0'}" for place in range(others))
+        yield framed(f"{others} recs before", f"{front}(+)recX.(a(+)b.recY.(X(+)X+c(+)b.recZ.(Y+X+X(+)a.(Z+Y))))")
+        yield framed(f"{others} recs before, in a sum", f"({front})+recX.(a+b.recY.(X+c(+)b.recZ.(Y+X(+)!a.(Z+Y))))")
+    for body in ("X", "Y", "X+Y", "X(+)Y", "(X)", "recZ.X", "b.Z"):
+        yield framed("a body that is a variable", f"recX.(a+b.recY.(c.Y+X+c.recZ.{body}))")
+        yield framed("a body that is a variable, more behind", f"recX.(a+b.recY.(c.Y+X+c.(recZ.{body}+recX.Y+!d.X)))")
+    yield framed("the slowest", SLOWEST)
+
+
 # One refusal behind another
 
 
@@ -301,5 +340,5 @@ def orders_of_faults():
 
 
 def limits():
-    for group in (depths, variables, ranks, places, numberings, states, ready_sets, families, long_chains, slow, orders_of_faults):
+    for group in (depths, variables, ranks, places, numberings, states, ready_sets, families, long_chains, slow, nests, orders_of_faults):
         yield from group()
