@@ -3,10 +3,10 @@
 use mathlib.Core.Path.{_≡_, sym, ap, subst, subst⁻¹, _∙_}
 use mathlib.Core.Logic.{_↔_, ⊎-elim}
 use mathlib.Core.List.{List, [], _∷_, _++_, List·Memᴰ, List·Memᴰ·eq-of-singleton, List·Memᴰ·append-cases}
-use Prim.Native.Nat.{ℕ, zero, suc, _<_, _≤_}
+use Prim.Native.Nat.{ℕ, zero, suc, _+_, _*_, _<_, _≤_}
 use native.Mathlib.Omega.{arith}
 use native.Mathlib.Nat.{eq-or-lt-of-le}
-use lib.ListN.{length, getD}
+use lib.ListN.{length, getD, take, drop}
 use lib.Dec.{T, eqb, eqb→eq}
 use lib.Bits.{bitOr, or-zero-l, or-lt}
 use lib.Pow.{pow-lt}
@@ -115,3 +115,12 @@ module _ (cells bodies held : List ℕ) {link bound recs′ : ℕ} {family famil
   masks-are-ready small =
       subst (λ (l : List ℕ). masksOf family′ ≡ sorted l) (ready-place cells bodies senses link small)
       (masks-held family′ _ holds-ready (ready-small cells bodies senses x ends))
+
+-- The masks in order of a family that is held, that of a rec whose body is at a place, are the place's ready sets in order.
+pub held-are-ready : (cells bodies held : List ℕ) (r : ℕ) {bound place : ℕ} → Ends cells bodies bound place → place < 256
+    → getD bodies r 0 ≡ place → 256 * (r + 1) ≤ length held → (senses : List Sense) → Explained cells bodies senses
+    → Held cells bodies senses held → masksOf (take 256 (drop (256 * r) held)) ≡ sorted (senseAt senses place .ready)
+held-are-ready cells bodies held r {bound} {place} ends small at room senses x k =
+    let own = take 256 (drop (256 * r) held) in
+    subst (λ (l : List ℕ). masksOf own ≡ sorted l) (ready-place cells bodies senses place small)
+    (masks-held own _ (subst (λ (q : ℕ). Holds own (readyBy cells bodies senses q)) at (k r room)) (ready-small cells bodies senses x ends))

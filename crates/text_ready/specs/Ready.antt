@@ -3,10 +3,12 @@
 use mathlib.Core.Path.{_≡_}
 use mathlib.Core.Logic.{_↔_}
 use mathlib.Core.List.{List, List·Memᴰ}
-use Prim.Native.Nat.{ℕ, _+_, _*_, _<_, _≤_}
+use Prim.Native.Nat.{ℕ, _+_, _*_, _<_, _≤_, min}
 use lib.ListN.{length, getD, take, drop}
 use lib.Dec.{T}
 use Rattle.model.specs.Contract.{has}
+use Rattle.little_endian.specs.Front.{front}
+use Rattle.nodes.specs.Sets.{sorted}
 use Rattle.families.specs.Families.{inFamily}
 use Rattle.text.specs.Places.{Sense, senseAt}
 use Rattle.text.specs.Cells.{Explained, unpacked, placeOf}
@@ -66,3 +68,9 @@ module _ (cells bodies : List ℕ) where
     pub added : (senses : List Sense) → Explained cells bodies senses → Held senses held → Settled senses (inFamily start) recs
         → (P : Family) × Joined (inFamily start) (readyBy senses link) P × United (inFamily all) P (inFamily all′)
         × ((r : ℕ) → r < 64 → T (has kept′ r) → T (has kept r) × Absorbs P (readyBy senses (256 + r)))
+
+  -- The ready sets of a place in order, eight of them at most, at the front of what is lent; r says how many there are, 9 for more.
+  abbrev pub PlaceReady : (held : List ℕ) (place : ℕ) (lent : List ℕ) (r : ℕ) (out : List ℕ) → Type 0
+  PlaceReady held place lent r out =
+      (senses : List Sense) → Explained cells bodies senses → Held senses held
+      → (r ≡ min 9 (length (sorted (senseAt senses place .ready)))) × (out ≡ front (take 8 (sorted (senseAt senses place .ready))) lent)

@@ -2,17 +2,13 @@
 // of the first recs are made once and held: where one of these bodies is met, the family is joined with the one that is held. Request 7/13,
 // "ready sets of + are all unions of one from each side".
 ghost use mathlib.Core.Path.{_≡_};
-ghost use mathlib.Core.List.{List};
-ghost use Prim.Native.Nat.{ℕ, _+_, _*_, _^_, _≤_, _<_, min};
-ghost use lib.ListN.{length, take, getD};
+ghost use Prim.Native.Nat.{ℕ, _+_, _*_, _^_, _≤_, _<_};
+ghost use lib.ListN.{length, getD};
 ghost use lib.Dec.{T};
 ghost use lib.Bits.{bitOr};
 ghost use Rattle.model.specs.Contract.{has};
-ghost use Rattle.little_endian.specs.Front.{front};
-ghost use Rattle.nodes.specs.Sets.{sorted};
-ghost use Rattle.text.specs.Places.{Sense, senseAt};
-ghost use Rattle.text.specs.Cells.{Ends, Explained, unpacked};
-ghost use Rattle.text_ready.specs.Ready.{Choice, Held, HeldAlways, HeldMore, JoinedBy, Added};
+ghost use Rattle.text.specs.Cells.{Ends, unpacked};
+ghost use Rattle.text_ready.specs.Ready.{Choice, HeldAlways, HeldMore, JoinedBy, Added, PlaceReady};
 
 // Above all places: a link from here on leads to the body of a rec.
 const PLACES: u16 = 256;
@@ -262,17 +258,45 @@ pub fn hold_bodies(cells: &[u32], bodies: &[u16], held: &mut [u64])
 
 // ---- the ready sets of a place
 
-// The ready sets of a place, ascending, eight of them at most. Gives how many there are, 9 if more than eight.
-pub fn put_ready(cells: &[u32], bodies: &[u16], held: &[u64], place: u16, out: &mut [u16]) -> u8
+// The first rec whose body is at a place; as many as there are if none is.
+fn body_at(bodies: &[u16], place: u16) -> usize
+    ensures { λ r. ⌜ (r ≤ length (now (bodies .entry))) × (r < length (now (bodies .entry)) → getD (now (bodies .entry)) r 0 ≡ place)
+        × ((i : ℕ) → i < r → getD (now (bodies .entry)) i 0 ≡ place → ⊥) ⌝ }
+{
+    let mut r: usize = 0;
+    while r < bodies.len() {
+        if bodies[r] == place {
+            return r;
+        }
+        r = r + 1;
+    }
+    r
+}
+
+// The ready sets of a place, by joining its parts.
+fn join_ready(cells: &[u32], bodies: &[u16], held: &[u64], place: u16, out: &mut [u16]) -> u8
     requires { ⌜ (length (now bodies) ≤ 64) × (length (now cells) ≤ 256) × (8 ≤ length (now out)) × (place < 256)
         × Ends (now cells) (now bodies) (length (now bodies)) place ⌝ }
-    ensures { λ r. ⌜ ((senses : List Sense) → Explained (now (cells .entry)) (now (bodies .entry)) senses
-        → Held (now (cells .entry)) (now (bodies .entry)) senses (now (held .entry))
-        → (r ≡ min 9 (length (sorted (senseAt senses place .ready))))
-        × (now (out .exit) ≡ front (take 8 (sorted (senseAt senses place .ready))) (now (out .entry)))) ⌝ }
+    ensures { λ r. ⌜ PlaceReady (now (cells .entry)) (now (bodies .entry)) (now (held .entry)) place (now (out .entry)) r (now (out .exit)) ⌝ }
 {
     let mut family = [0u64; 256];
     families::only_empty(&mut family);
     join(cells, bodies, held, place, bodies.len(), &mut family, 0);
     families::masks(&family, out)
+}
+
+// The ready sets of a place, ascending, eight of them at most: those that are held if it is a body. Gives how many there are, 9 if more
+// than eight.
+pub fn put_ready(cells: &[u32], bodies: &[u16], held: &[u64], place: u16, out: &mut [u16]) -> u8
+    requires { ⌜ (length (now bodies) ≤ 64) × (length (now cells) ≤ 256) × (8 ≤ length (now out)) × (place < 256)
+        × Ends (now cells) (now bodies) (length (now bodies)) place ⌝ }
+    ensures { λ r. ⌜ PlaceReady (now (cells .entry)) (now (bodies .entry)) (now (held .entry)) place (now (out .entry)) r (now (out .exit)) ⌝ }
+{
+    let r = body_at(bodies, place);
+    if r < bodies.len() {
+        if r < held.len() / WORDS {
+            return families::masks(&held[WORDS * r..WORDS * r + WORDS], out);
+        }
+    }
+    join_ready(cells, bodies, held, place, out)
 }
