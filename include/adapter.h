@@ -23,7 +23,7 @@
  *   - Nothing is allocated, and there is no global state. Calls on distinct buffers are re-entrant, and may run at the same time; what is
  *     only read may be shared between them.
  *   - There is recursion in adapter_from_text and adapter_text_fault alone, no deeper than the depth of a text, which is 16, its chains of +
- *     and the bodies of its recs allow. Of the stack adapter_from_text uses some 52 KiB for a short text, and 212 KiB for the deepest that
+ *     and the bodies of its recs allow. Of the stack adapter_from_text uses some 84 KiB for a short text, and 244 KiB for the deepest that
  *     were tried; adapter_text_fault 23 KiB, adapter_complies some 13 KiB, adapter_from_choosing some 5 KiB, the others less than 2 KiB;
  *     that is measured and not proved.
  */

@@ -273,25 +273,40 @@ def slow():
 
 
 def nest(levels, first, part):
-    """Recs one inside the other: each is a choice of what `part` makes of the
-    variable around it, as often as there is room, and behind an action the next."""
+    """Recs one inside the other: each but the first is a choice of what `part`
+    makes of the variable around it, as often as there is room, and of the next
+    behind an action."""
 
     def made(count):
         text, around = f"recX.({first}", "X"
         for level in range(1, levels):
             variable = "XYZ"[level % 3]
-            text += "(+)" + "(+)".join([part(around)] * count) + f"(+)a.rec{variable}.("
+            text += f"(+)a.rec{variable}.(" + "(+)".join([part(around)] * count)
             around = variable
-        return text + part(around) + ")" * levels
+        return text + ")" * levels
 
     return max((made(count) for count in range(1, 60) if len(made(count)) <= 256), key=len)
 
 
 #: The slowest text that a search found by changing texts at random.
 SLOWEST = (
-    "recX.0(+)recX.(a(+)b(+)c(+)d(+)e(+)f(+)g(+)!a(+)!b(+)!c(+)!d(+)e(+)!e(+)!f(+)!g(+)a.recY.(X+(X(+)X)+"
-    "X+(X(+)X)+X(+)!c+(X(+)X)+X+X+X+X+X+X+X+X+X(+)a.recZ.(Y+Y+X(+)Y+Y+Y(+)Y(+)Y+X+Y+Y+Y+Y(+)Y+Y+Y+Y(+)a.r"
-    "ecX.(!d+Z+Z(+)d+Z+Z(+)Z+Z+b(+)Y+Y(+)Z+Z(+)(a(+)Z)+Z))))"
+    "recX.(g(+)!d(+)f(+)!c+!e(+)d(+)b(+)!g(+)e(+)!f(+)!e(+)a(+)!c(+)a.recY.(X+X(+)!a+X+X(+)a.recZ.(X+X+Y("
+    "+)a.recX.(Z+!b+Y(+)Y+!e(+)(Z(+)Y)+Z(+)a.recY.(X+X+X(+)X+X(+)X+X+X(+)X+X(+)X+X+X(+)X+X+X(+)X+X+X(+)X+"
+    "X+X(+)X+X+X(+)X+X+X(+)X+X+X(+)X+X+X(+)X+X+X(+)X+X+X)))))"
+)
+
+#: Slow for a program that keeps what it found of the first recs alone: recs that nobody names come first.
+UNNAMED = (
+    (
+        "recX.recX.recX.recX.recX.recX.recX.recX.recX.recX.recX.recX.recX.recX.recX.0(+)recX.(d+b(+)e+!c("
+        "+)!d(+)f+g(+)!f(+)!g(+)!b(+)c(+)!e(+)f.recY.(c+X(+)X(+)X+X(+)a.recZ.(Y+Y+Y+Y+Y(+)!a.recX.(d+Z(+)"
+        "Z(+)g+Z(+)Z+Z(+)d+Z(+)a.recY.(X+X+X(+)X+X(+)X+X(+)X+X)(+)c+Y))))"
+    ),
+    (
+        "recX.recX.0(+)recX.f(+)recX.0(+)recX.0(+)recX.0(+)recX.0(+)recX.(a+b(+)c(+)d(+)e(+)!f(+)g+!a(+)!"
+        "b(+)!d(+)a.recY.((!g(+)X)+X(+)X(+)X+X(+)(!g(+)X)+X(+)X+X(+)(X(+)X)+X(+)a.recZ.(Y+Y(+)Y+!b(+)Y+Y("
+        "+)Y+Y(+)!c(+)Y+Y(+)a.recX.(Z+Z+Z(+)!e(+)a.recY.(X+X+X(+)X+X)))))"
+    ),
 )
 
 
@@ -301,14 +316,16 @@ def nests():
         for count in (2, 3, 9):
             for part in parts:
                 yield framed(f"{levels} recs, one inside the other", nest(levels, choice(ALL[:count]), part))
-    for others in (1, 5, 6, 7, 8, 9, 12):
-        front = choice(f"rec {'XYZ'[place % 3]}.{'a' * (place % 2) or '0'}" for place in range(others))
+    for others in (1, 5, 7, 8, 14, 15, 16, 17, 27, 28, 29, 30, 31, 32, 33):
+        front = choice(("recX." * min(others, 14) + "0", "recY." * min(others - 14, 14) + "a", "recZ." * (others - 28) + "0"))
         yield framed(f"{others} recs before", f"{front}(+)recX.(a(+)b.recY.(X(+)X+c(+)b.recZ.(Y+X+X(+)a.(Z+Y))))")
         yield framed(f"{others} recs before, in a sum", f"({front})+recX.(a+b.recY.(X+c(+)b.recZ.(Y+X(+)!a.(Z+Y))))")
     for body in ("X", "Y", "X+Y", "X(+)Y", "(X)", "recZ.X", "b.Z"):
         yield framed("a body that is a variable", f"recX.(a+b.recY.(c.Y+X+c.recZ.{body}))")
         yield framed("a body that is a variable, more behind", f"recX.(a+b.recY.(c.Y+X+c.(recZ.{body}+recX.Y+!d.X)))")
     yield framed("the slowest", SLOWEST)
+    for text in UNNAMED:
+        yield framed("recs nobody names", text)
 
 
 # One refusal behind another

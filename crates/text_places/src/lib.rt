@@ -19,7 +19,7 @@ const PLACES: u16 = 256;
 const FEW: usize = 3;
 
 // So many families of bodies are held at most.
-const MOST: usize = 16;
+const MOST: usize = 32;
 
 // Numbers in a family.
 const WORDS: usize = 256;
@@ -151,14 +151,14 @@ fn fill_with(
     fill_wanted(cells, bodies, held, wanted, sizes, masks, prefixes);
 }
 
-// Of how many recs the families of bodies are held: sixteen at most.
+// Of how many recs the families of bodies are held: 32 at most.
 fn recs_held(recs: usize) -> usize
-    ensures { λ r. ⌜ r ≡ min 16 recs ⌝ }
+    ensures { λ r. ⌜ r ≡ min 32 recs ⌝ }
 {
     if recs < MOST { recs } else { MOST }
 }
 
-// The same for every place of a set, with room for the families of the bodies of sixteen recs.
+// The same for every place of a set, with room for the families of the bodies of 32 recs.
 fn fill_held(
     cells: &[u32],
     bodies: &[u16],
@@ -172,7 +172,7 @@ fn fill_held(
     ensures { λ _. ⌜ Filling (now (cells .entry)) (now (bodies .entry)) (now (wanted .entry)) (length (now (cells .entry)))
         (now (sizes .exit)) (now (masks .exit)) (now (prefixes .exit)) ⌝ }
 {
-    let mut held = [0u64; 4096];
+    let mut held = [0u64; 8192];
     let n = recs_held(bodies.len());
     fill_with(
         cells,
