@@ -263,14 +263,14 @@ fn body_at(bodies: &[u16], place: u16) -> usize
     ensures { λ r. ⌜ (r ≤ length (now (bodies .entry))) × (r < length (now (bodies .entry)) → getD (now (bodies .entry)) r 0 ≡ place)
         × ((i : ℕ) → i < r → getD (now (bodies .entry)) i 0 ≡ place → ⊥) ⌝ }
 {
-    let mut r: usize = 0;
-    while r < bodies.len() {
-        if bodies[r] == place {
-            return r;
+    let mut at: usize = 0;
+    while at < bodies.len() {
+        if bodies[at] == place {
+            return at;
         }
-        r = r + 1;
+        at = at + 1;
     }
-    r
+    at
 }
 
 // The ready sets of a place, by joining its parts.

@@ -1,4 +1,4 @@
--- `text_ready::body_at` meets its contract. The loop's invariant: no body before r is at the place.
+-- `text_ready::body_at` meets its contract. The loop's invariant: no body before this one is at the place.
 -- Assumes nothing.
 use mathlib.Core.Path.{_≡_, subst⁻¹}
 use mathlib.Core.Logic.{⊎-elim}
@@ -10,10 +10,10 @@ use Rattle.text_ready.proofs.body_at.Statement.{statement}
 use Rattle.text_ready.proofs.body_at.Tie as tie
 
 abbrev Inv-loop : tie.InvT-loop
-Inv-loop bodies place r₀ r = (r ≤ length bodies) × ((i : ℕ) → i < r → getD bodies i 0 ≡ place → ⊥)
+Inv-loop bodies place at₀ at = (at ≤ length bodies) × ((i : ℕ) → i < at → getD bodies i 0 ≡ place → ⊥)
 
 abbrev μ-loop : tie.MeasureT-loop
-μ-loop bodies place r₀ r = length bodies - r
+μ-loop bodies place at₀ at = length bodies - at
 
 loop-holds : tie.Need-loop-holds Inv-loop μ-loop
 loop-holds c = (omega arith, λ i h. absurd (omega arith))
@@ -27,8 +27,8 @@ shared-slice-read-if1 c = omega arith
 returns : tie.Need-returns Inv-loop μ-loop
 returns c = let l = c .before .before .before .loop in (omega arith, (λ h. c .if1 .taken), l .inv .1)
 
-add-r : tie.Need-add-r Inv-loop μ-loop
-add-r c = omega arith
+add-at : tie.Need-add-at Inv-loop μ-loop
+add-at c = omega arith
 
 loop-less : tie.Need-loop-less Inv-loop μ-loop
 loop-less c = omega arith
@@ -40,7 +40,7 @@ loop-again c =
     let place = c .before .before .before .before .args .place in (
       omega arith,
       λ i h. ⊎-elim (λ e. subst⁻¹ (λ (q : ℕ). getD bodies q 0 ≡ place → ⊥) e (c .if1 .left)) (λ k. l .inv .1 i k)
-          (eq-or-lt-of-le {n = i} {m = l .r} (omega (arith, h))),
+          (eq-or-lt-of-le {n = i} {m = l .at} (omega (arith, h))),
     )
 
 returns-2 : tie.Need-returns-2 Inv-loop μ-loop
@@ -56,7 +56,7 @@ body-at-spec =
     mul-if1
     shared-slice-read-if1
     returns
-    add-r
+    add-at
     loop-less
     loop-again
     returns-2)
