@@ -277,7 +277,8 @@ fn body_at(bodies: &[u16], place: u16) -> usize
 fn join_ready(cells: &[u32], bodies: &[u16], held: &[u64], place: u16, out: &mut [u16]) -> u8
     requires { ⌜ (length (now bodies) ≤ 64) × (length (now cells) ≤ 256) × (8 ≤ length (now out)) × (place < 256)
         × Ends (now cells) (now bodies) (length (now bodies)) place ⌝ }
-    ensures { λ r. ⌜ PlaceReady (now (cells .entry)) (now (bodies .entry)) (now (held .entry)) place (now (out .entry)) r (now (out .exit)) ⌝ }
+    ensures { λ r. ⌜ PlaceReady (now (cells .entry)) (now (bodies .entry)) (now (held .entry)) place (now (out .entry)) r
+        (now (out .exit)) ⌝ }
 {
     let mut family = [0u64; 256];
     families::only_empty(&mut family);
@@ -290,7 +291,8 @@ fn join_ready(cells: &[u32], bodies: &[u16], held: &[u64], place: u16, out: &mut
 pub fn put_ready(cells: &[u32], bodies: &[u16], held: &[u64], place: u16, out: &mut [u16]) -> u8
     requires { ⌜ (length (now bodies) ≤ 64) × (length (now cells) ≤ 256) × (8 ≤ length (now out)) × (place < 256)
         × Ends (now cells) (now bodies) (length (now bodies)) place ⌝ }
-    ensures { λ r. ⌜ PlaceReady (now (cells .entry)) (now (bodies .entry)) (now (held .entry)) place (now (out .entry)) r (now (out .exit)) ⌝ }
+    ensures { λ r. ⌜ PlaceReady (now (cells .entry)) (now (bodies .entry)) (now (held .entry)) place (now (out .entry)) r
+        (now (out .exit)) ⌝ }
 {
     let r = body_at(bodies, place);
     if r < bodies.len() {
