@@ -288,7 +288,7 @@ def nest(levels, first, part):
     return max((made(count) for count in range(1, 60) if len(made(count)) <= 256), key=len)
 
 
-#: The slowest text that a search found by changing texts at random.
+#: The slowest known of the texts that a search found by changing texts at random.
 SLOWEST = (
     "recX.(g(+)!d(+)f(+)!c+!e(+)d(+)b(+)!g(+)e(+)!f(+)!e(+)a(+)!c(+)a.recY.(X+X(+)!a+X+X(+)a.recZ.(X+X+Y("
     "+)a.recX.(Z+!b+Y(+)Y+!e(+)(Z(+)Y)+Z(+)a.recY.(X+X+X(+)X+X(+)X+X+X(+)X+X(+)X+X+X(+)X+X+X(+)X+X+X(+)X+"
