@@ -1,4 +1,6 @@
 // The entry points for C and Rust: each hands its arguments on and its answer back. A slice passes as a pointer and then a length.
+#![tactic(auto)]
+
 ghost use Rattle.std.specs.Prelude.{◌≡◌};
 ghost use Rattle.model.specs.Test.{paper};
 ghost use Rattle.model.specs.Connect.{connect_of};

@@ -1,5 +1,7 @@
 // Answers the cases that stand on standard input, each behind its length. tests/reference makes them and says what is to be printed for
 // each; its README has the form of every kind.
+#![tactic(auto)]
+
 mod clients;
 mod converting;
 mod lines;
@@ -8,7 +10,7 @@ mod sheets;
 mod steps;
 
 // What the cases are about.
-#[derive(Drop)]
+#[derive(Clone, Copy)]
 pub enum Kind {
     Sheets,
     Pairs,

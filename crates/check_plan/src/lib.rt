@@ -1,5 +1,7 @@
 // Checking a plan from any hand against two sheets, in a mode: the answer, what is at fault, and the work table afterwards. Document 02,
 // requests 3/13 and 5/13.
+#![tactic(auto)]
+
 ghost use Rattle.std.specs.Prelude.{◌≡◌, true};
 ghost use Rattle.model.specs.Plan.{read_plan};
 ghost use Rattle.sheet.specs.Whole.{IsSheet};

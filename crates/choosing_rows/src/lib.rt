@@ -1,4 +1,6 @@
 // Choosing sheets read into tables of numbers, or refused as none. Request 1/13.
+#![tactic(auto)]
+
 ghost use Rattle.std.specs.Prelude.{◌≡◌, List, ℕ, ◌+◌, ◌*◌, ◌≤◌, ◌<◌, length, set};
 ghost use Rattle.model.specs.Lists.{keep};
 ghost use Rattle.model.specs.Contract.{actions, has};
@@ -20,21 +22,21 @@ use sheet::{ACTION_BITS, has_bit};
 const ROWS: usize = 32;
 
 // Rows under one count: their set and where the next part begins, or no such rows.
-#[derive(Drop)]
+#[derive(Clone, Copy)]
 enum Group {
     Bad,
     Rows(u32, usize),
 }
 
 // A part of a sheet: where the next one begins, or no such part.
-#[derive(Drop)]
+#[derive(Clone, Copy)]
 enum Row {
     Bad,
     Behind(usize),
 }
 
 // Where rows are at fault: nowhere, or first at a row.
-#[derive(Drop)]
+#[derive(Clone, Copy)]
 pub enum RowFault {
     Nowhere,
     At(u8),

@@ -1,5 +1,7 @@
 // Connecting two sheets: the answer, the plan, and the work table afterwards. Document 01, "Which pairs connect" and "Refusals and
 // their order".
+#![tactic(auto)]
+
 ghost use Rattle.std.specs.Prelude.{◌≡◌, ◌≤◌, ◌<◌, length, leb};
 ghost use Rattle.model.specs.Test.{paper};
 ghost use Rattle.model.specs.Connect.{limit_of, connect_of};
@@ -16,7 +18,7 @@ use pair::Pair;
 // What connecting answers: number, sheet and state of a refusal, and the offset of the byte at fault; situations, plan states and rounds;
 // the plan's length.
 #[repr(C)]
-#[derive(Drop)]
+#[derive(Clone, Copy)]
 pub struct Answer {
     pub number: u8,
     pub sheet: u8,

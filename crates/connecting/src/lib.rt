@@ -1,5 +1,7 @@
 // The connecting program: reads k, the first sheet behind its length and the second sheet, and prints the answer, the counts and the plan's
 // moves. Document 01, "Cases".
+#![tactic(auto)]
+
 ghost use Rattle.std.specs.Prelude.{◌≡◌, ◌+◌, ◌*◌, ◌≤◌, length};
 ghost use Rattle.connect.specs.Answers.{answer_of};
 ghost use Rattle.connecting.specs.Own.{own_of};

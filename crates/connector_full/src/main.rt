@@ -1,4 +1,6 @@
 // The connecting program on a pair with as many situations as it lends records.
+#![tactic(auto)]
+
 fn main() {
     connecting::connect_input();
 }

@@ -1,4 +1,6 @@
 // Choosing sheets converted into ordinary sheets: the entry point. Request 1/13, "Sheets with hidden choices".
+#![tactic(auto)]
+
 ghost use Rattle.std.specs.Prelude.{◌≡◌};
 ghost use Rattle.choosing.specs.Convert.{convert_into};
 ghost use Rattle.convert.specs.Sets.{RowTables, convert_from};

@@ -1,4 +1,6 @@
 // A row of a plan in a situation: which condition of the check it breaks first, told the mode, and by which code or ready set.
+#![tactic(auto)]
+
 ghost use Rattle.std.specs.Prelude.{◌≡◌, ◌+◌, ◌*◌, ◌^◌, ◌≤◌, ◌<◌, length, get_or};
 ghost use mathlib.Core.List.{Memᴰ};
 ghost use Rattle.std.proofs.Math.Option.{none};
@@ -18,7 +20,7 @@ ghost use Rattle.edits_rows.specs.Rows.{InRow, keeps_counts, met_by, blame_from,
 // Which condition fails, counted from 1, and 0 if none does; the code of the first move that breaks one of the first two; the first ready
 // set of the new state that breaks one of the others, the two parts of the test.
 #[repr(C)]
-#[derive(Drop)]
+#[derive(Clone, Copy)]
 pub struct Blame {
     pub condition: u8,
     pub code: u8,

@@ -1,5 +1,7 @@
 // Families: sets of masks, a mask being a set of the actions 0 to 13. A family is kept in 256 numbers of 64 bits: mask m is in it if bit
 // m % 64 of number m / 64 is set.
+#![tactic(auto)]
+
 ghost use Rattle.std.specs.Prelude.{◌≡◌, cond, ◌&&◌, ◌||◌, ℕ, ◌+◌, ◌-◌, ◌^◌, ◌<◌, ◌≤◌, min, length, get_or, take, T, eqb};
 ghost use Rattle.std.specs.Int.Bits.{bit_or};
 ghost use Rattle.std.specs.Int.Count.{count_trailing_zeros};

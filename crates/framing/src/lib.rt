@@ -1,9 +1,11 @@
 // What programs read and print: bytes behind their length, and lines of figures. The stored cases are such frames, one behind the other.
+#![tactic(auto)]
+
 ghost use Rattle.std.specs.Prelude.{◌≡◌, ◌+◌, ◌≤◌, min, length};
 ghost use Rattle.model.specs.Bytes.{word};
 
 // A part of the input that was read: its length, if the whole of it was there.
-#[derive(Drop)]
+#[derive(Clone, Copy)]
 pub struct Frame {
     pub whole: bool,
     pub length: usize,

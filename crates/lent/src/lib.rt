@@ -3,6 +3,8 @@
 // program's input: k, the first sheet behind its length, and the second. Its line: number, sheet, state, offset; situations, plan states,
 // rounds; plan length; digest of the lent plan; lent records that are zero, and lent records that are as they were. The module plans has
 // the like for edit_cases.
+#![tactic(auto)]
+
 mod left;
 mod plans;
 
@@ -26,7 +28,7 @@ fn print_answer(answer: connect::Answer) {
 }
 
 // What a call gave: the answer, and how many of the lent records are zero and how many are as they were.
-#[derive(Drop)]
+#[derive(Clone, Copy)]
 pub struct Outcome {
     pub answer: connect::Answer,
     pub zero: usize,

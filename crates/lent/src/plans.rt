@@ -14,7 +14,7 @@ use crate::left::count_records;
 use crate::{Outcome, counted, record_before};
 
 // What a call for the fault gave: the fault, and how many of the lent records are zero and how many are as they were.
-#[derive(Drop)]
+#[derive(Clone, Copy)]
 pub struct FaultOutcome {
     pub fault: edits_walk::Fault,
     pub zero: usize,

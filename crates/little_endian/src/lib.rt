@@ -1,5 +1,7 @@
 // Little-endian numbers: read at a place of some bytes, and written at the front of what is lent. Document 01: "All numbers are
 // little-endian." A writer leaves what stands behind as it was, so the next writer is lent the rest.
+#![tactic(auto)]
+
 ghost use Rattle.std.specs.Prelude.{◌≡◌, [], ◌∷◌, ◌+◌, ◌≤◌, length};
 ghost use Rattle.model.specs.Bytes.{word, dword, le16, le32};
 ghost use Rattle.little_endian.specs.Front.{front};

@@ -14,8 +14,7 @@ use lib.Seq.{get_or-set_other, get_or-set_same}
 use lib.Dec.{ltb, ltb→lt}
 use borrow.Author.Tests.{ltb-true, ltb-false}
 use Rattle.model.specs.Contract.{takes, name}
-use Rattle.model.specs.Limits.{alike}
-use Rattle.model.specs.Situation.{service, buffer_after, raised, lowered}
+use Rattle.model.specs.Situation.{alike, service, buffer_after, raised, lowered}
 use Rattle.model.specs.Weak.{Rank}
 use Rattle.model.proofs.Lists.{cond-some}
 

@@ -8,8 +8,7 @@ use Rattle.model.specs.Lists.{any, all, keep, place, upto}
 use Rattle.model.specs.Bytes.{byte, word, dword, le16, le32}
 use Rattle.model.specs.Contract.{actions, takes, name, partner, has, nowhere, state, offers_in, offers, offered_below, after}
 use Rattle.model.specs.Sheet.{check, then, trailer, stray_bit, words_from, out_of_order, masks_from, successors_from, row_with, row_at, states_from, good_trailer, read_sheet, in_place, plain, read_both}
-use Rattle.model.specs.Limits.{alike, same_list}
-use Rattle.model.specs.Situation.{start, same, kind_of, codes, raised, lowered, buffer_after, offered, old_after, new_after, with_buffer, next_by, next}
+use Rattle.model.specs.Situation.{start, alike, same_list, same, kind_of, codes, raised, lowered, buffer_after, offered, old_after, new_after, with_buffer, next_by, next}
 use Rattle.model.specs.Test.{listed, covered, covers, hope, answered, Mode, paper, settled, is_settled, silent, rests, waits, asked, delivered, test}
 use Rattle.model.specs.Search.{member, add, add_all, search, search_from}
 use Rattle.model.specs.Rounds.{onward, stays, within, moves_into, round, sift, sifted}

@@ -40,37 +40,37 @@ unfolding counted
 sound-counted room number situations states rounds l h =
     record { table = h; written = refl; nothing = λ n. refl; uncounted = λ _ m. absurd (omega arith); within = omega arith }
 
-sound-connected : (passes : List ℕ → Situation → Bool) (limits : List ℕ) (σ τ : Contract) (limit room : ℕ) → Sound room (connected passes limits σ τ limit room)
-sound-connected passes limits σ τ limit room = go (shape limits σ τ limit passes room)
+sound-connected : (passes : List ℕ → Situation → Bool) (k : ℕ) (σ τ : Contract) (limit room : ℕ) → Sound room (connected passes k σ τ limit room)
+sound-connected passes k σ τ limit room = go (shape k σ τ limit passes room)
   where
-    go : Shape limits σ τ limit passes room → Sound room (connected passes limits σ τ limit room)
+    go : Shape k σ τ limit passes room → Sound room (connected passes k σ τ limit room)
     go (cut_off n e) = rw e (sound-refused room (plain 11 0) (unfold plain in omega arith))
     go (removed w n e) = rw e (sound-counted room 12 _ _ _ (omega arith) (omega arith))
     go (too_long w m l e) = rw e (sound-counted room 13 _ _ _ (omega arith) (omega arith))
     go (fits w m l e) =
         rw e (unfold counted in record { table = omega arith; written = refl; nothing = λ n. absurd (n refl); uncounted = λ l m. absurd (omega arith); within = l })
 
-sound-ranked : (mode : Mode) (limits : List ℕ) (records room : ℕ) (r : Reading Refusal Both) → OnlyRefused (λ (r : Refusal). (1 ≤ r.number) × (r.number ≤ 9)) r → Sound room (ranked mode limits records room r)
+sound-ranked : (mode : Mode) (k records room : ℕ) (r : Reading Refusal Both) → OnlyRefused (λ (r : Refusal). (1 ≤ r.number) × (r.number ≤ 9)) r → Sound room (ranked mode k records room r)
 unfolding ranked
-sound-ranked mode limits records room (refusal r) o = sound-refused room r (omega (arith, o.1))
-sound-ranked mode limits records room (good sheets) o = go (leb limits 3)
+sound-ranked mode k records room (refusal r) o = sound-refused room r (omega (arith, o.1))
+sound-ranked mode k records room (good sheets) o = go (leb k 3)
   where
-    go : (t : Bool) → Sound room (cond t (connected (test mode sheets.one sheets.two) limits sheets.one sheets.two (limit_of records) room) (refused (plain 10 0)))
-    go true = sound-connected (test mode sheets.one sheets.two) limits sheets.one sheets.two (limit_of records) room
+    go : (t : Bool) → Sound room (cond t (connected (test mode sheets.one sheets.two) k sheets.one sheets.two (limit_of records) room) (refused (plain 10 0)))
+    go true = sound-connected (test mode sheets.one sheets.two) k sheets.one sheets.two (limit_of records) room
     go false = sound-refused room (plain 10 0) (unfold plain in omega arith)
 
-sound-outcome : (mode : Mode) (records room : ℕ) (limits : List ℕ) (old new : List ℕ) → Sound room (outcome_of mode records room limits old new)
+sound-outcome : (mode : Mode) (records room k : ℕ) (old new : List ℕ) → Sound room (outcome_of mode records room k old new)
 unfolding outcome_of
-sound-outcome mode records room limits old new = sound-ranked mode limits records room (read_both 0 0 old new) (both-numbers 0 0 old new)
+sound-outcome mode records room k old new = sound-ranked mode k records room (read_both 0 0 old new) (both-numbers 0 0 old new)
 
-module _ {R : Type 0} (blank : R) (mode : Mode) (limits : List ℕ) (old new : List ℕ) (work : List R) (plan : List ℕ) where
+module _ {R : Type 0} (blank : R) (mode : Mode) (k : ℕ) (old new : List ℕ) (work : List R) (plan : List ℕ) where
   abbrev o : Outcome
-  o = outcome_of mode (length work) (length plan) limits old new
+  o = outcome_of mode (length work) (length plan) k old new
 
   abbrev sound : Sound (length plan) o
-  sound = sound-outcome mode (length work) (length plan) limits old new
+  sound = sound-outcome mode (length work) (length plan) k old new
 
-  connect-answers : Answers blank work plan (connect_of blank mode limits old new work plan)
+  connect-answers : Answers blank work plan (connect_of blank mode k old new work plan)
   unfolding connect_of clears
   connect-answers =
       record {
@@ -116,7 +116,7 @@ pub demand-1 : Demand-1
 unfolding step_of complies_of
 demand-1 =
     record {
-      connects = λ R blank mode limits old new work plan. connect-answers blank mode limits old new work plan;
+      connects = λ R blank mode k old new work plan. connect-answers blank mode k old new work plan;
       steps = λ plan state code. step-in (read_plan plan) state code;
       complies = λ client service. check-number (read_both 1 0 client service) (both-numbers 1 0 client service);
     }

@@ -8,7 +8,7 @@ use Prim.Native.Nat.{ℕ, ◌≤◌}
 use lib.ListN.{length, get_elem?}
 use Rattle.model.specs.Contract.{Contract}
 use Rattle.model.specs.Sheet.{contract_in}
-use Rattle.model.specs.Situation.{Situation, start, same, codes, next}
+use Rattle.model.specs.Situation.{Situation, start, alike, same, codes, next}
 use Rattle.model.specs.Test.{Mode, settled, is_settled, test}
 use Rattle.model.specs.Search.{search_from}
 use Rattle.model.specs.Plan.{Move, held, plan_states, plan_rows, rows_in}
@@ -64,7 +64,7 @@ module _ (mode : Mode) (limits : List ℕ) (old new : Contract) (kept : List Sit
 
 -- ---- the plan of an acceptance
 
-module _ (mode : Mode) (limits : List ℕ) (limit room : ℕ) (old new : List ℕ) (c : Accepted mode limits limit room old new) where
+module _ (mode : Mode) (k limit room : ℕ) (old new : List ℕ) (c : Accepted mode k limit room old new) where
   abbrev σ : Contract
   σ = c.sheets.one
 
@@ -72,67 +72,67 @@ module _ (mode : Mode) (limits : List ℕ) (limit room : ℕ) (old new : List �
   τ = c.sheets.two
 
   abbrev kept : List Situation
-  kept = kept_of mode limits limit σ τ
+  kept = kept_of mode k limit σ τ
 
   -- plan state i is the place of the situation
   abbrev pub Place : ℕ → Situation → Type 0
-  Place i s = get_elem? (plan_states same codes (next limits σ τ) kept start) i ≡ some s
+  Place i s = get_elem? (plan_states same codes (next (alike k) σ τ) kept start) i ≡ some s
 
-  pub accepted-stand : StandFor mode limits σ τ (rows_for limits σ τ kept) Place
+  pub accepted-stand : StandFor mode (alike k) σ τ (rows_for k σ τ kept) Place
   unfolding rows_for sifted_of
   accepted-stand =
-      let nx : Situation → ℕ → Option Situation = next limits σ τ in
-      kept-stand mode limits σ τ kept c.begun
+      let nx : Situation → ℕ → Option Situation = next (alike k) σ τ in
+      kept-stand mode (alike k) σ τ kept c.begun
       (sifted-closed same is_same codes nx (test mode σ τ) (AsksAt mode σ τ) (rounds-test (mode-computes mode σ τ)) (search_from same codes nx limit start).done)
 
   module _ (limit-ok : limit ≤ 4096) (user : Contract) (attempts : List Attempt) where
-    accepted-runs : Runs limits user σ τ (plan_of mode limits limit σ τ) attempts
+    accepted-runs : Runs k user σ τ (plan_of mode k limit σ τ) attempts
     accepted-runs =
-        stand-runs (plan_of mode limits limit σ τ) _ (accepted-reads mode limits limit room old new c limit-ok) mode limits σ τ Place accepted-stand user attempts
-        (accepted-formed mode limits limit room old new c).1
+        stand-runs (plan_of mode k limit σ τ) _ (accepted-reads mode k limit room old new c limit-ok) mode k σ τ Place accepted-stand user attempts
+        (accepted-formed mode k limit room old new c).1
 
     accepted-allowed : (b : List ℕ)
-        × (buffer_from limits start.buffer (history user τ (rows_in (plan_of mode limits limit σ τ)) attempts) ≡ some b)
+        × (buffer_from (alike k) start.buffer (history user τ (rows_in (plan_of mode k limit σ τ)) attempts) ≡ some b)
     accepted-allowed =
-        stand-allowed (plan_of mode limits limit σ τ) _ (accepted-reads mode limits limit room old new c limit-ok) mode limits σ τ Place accepted-stand user attempts
+        stand-allowed (plan_of mode k limit σ τ) _ (accepted-reads mode k limit room old new c limit-ok) mode k σ τ Place accepted-stand user attempts
 
 -- of a settled plan
-accepted-settles : (limits : List ℕ) (limit room : ℕ) (old new : List ℕ) (c : Accepted settled limits limit room old new) → limit ≤ 4096
+accepted-settles : (k limit room : ℕ) (old new : List ℕ) (c : Accepted settled k limit room old new) → limit ≤ 4096
     → (user : Contract) (attempts : List Attempt)
-    → Settles limits user c.sheets.one c.sheets.two (plan_of settled limits limit c.sheets.one c.sheets.two) attempts
+    → Settles k user c.sheets.one c.sheets.two (plan_of settled k limit c.sheets.one c.sheets.two) attempts
 unfolding is_settled
-accepted-settles limits limit room old new c limit-ok user attempts =
-    stand-settles (plan_of settled limits limit c.sheets.one c.sheets.two) _ (accepted-reads settled limits limit room old new c limit-ok)
-    settled limits c.sheets.one c.sheets.two (Place settled limits limit room old new c) (accepted-stand settled limits limit room old new c) user attempts tt
+accepted-settles k limit room old new c limit-ok user attempts =
+    stand-settles (plan_of settled k limit c.sheets.one c.sheets.two) _ (accepted-reads settled k limit room old new c limit-ok)
+    settled k c.sheets.one c.sheets.two (Place settled k limit room old new c) (accepted-stand settled k limit room old new c) user attempts tt
 
 -- ---- over connecting's outcome
 
-module _ {R : Type 0} (blank : R) (mode : Mode) (limits : List ℕ) (old new : List ℕ) (work : List R) (plan : List ℕ)
-    (z : (connect_of blank mode limits old new work plan).answer.number ≡ 0) where
+module _ {R : Type 0} (blank : R) (mode : Mode) (k : ℕ) (old new : List ℕ) (work : List R) (plan : List ℕ)
+    (z : (connect_of blank mode k old new work plan).answer.number ≡ 0) where
   abbrev limit : ℕ
   limit = limit_of (length work)
 
   abbrev written : List ℕ
-  written = emitted_plan (connect_of blank mode limits old new work plan)
+  written = emitted_plan (connect_of blank mode k old new work plan)
 
   -- runs of the written plan, whatever contract the client has
-  pub emitted-runs : (user : Contract) (attempts : List Attempt) → Runs limits user (contract_in old) (contract_in new) written attempts
+  pub emitted-runs : (user : Contract) (attempts : List Attempt) → Runs k user (contract_in old) (contract_in new) written attempts
   emitted-runs user attempts =
-      over-bytes blank mode limits old new work plan z (λ o n b. Runs limits user o n b attempts)
-      (λ c. accepted-runs mode limits limit (length plan) old new c (limit-few (length work)) user attempts)
+      over-bytes blank mode k old new work plan z (λ o n b. Runs k user o n b attempts)
+      (λ c. accepted-runs mode k limit (length plan) old new c (limit-few (length work)) user attempts)
 
   -- and their buffer allows every move
   pub emitted-allowed : (user : Contract) (attempts : List Attempt)
-      → (b : List ℕ) × (buffer_from limits start.buffer (history user (contract_in new) (rows_in written) attempts) ≡ some b)
+      → (b : List ℕ) × (buffer_from (alike k) start.buffer (history user (contract_in new) (rows_in written) attempts) ≡ some b)
   emitted-allowed user attempts =
-      over-bytes blank mode limits old new work plan z
-      (λ o n b. (l : List ℕ) × (buffer_from limits start.buffer (history user n (rows_in b) attempts) ≡ some l))
-      (λ c. accepted-allowed mode limits limit (length plan) old new c (limit-few (length work)) user attempts)
+      over-bytes blank mode k old new work plan z
+      (λ o n b. (l : List ℕ) × (buffer_from (alike k) start.buffer (history user n (rows_in b) attempts) ≡ some l))
+      (λ c. accepted-allowed mode k limit (length plan) old new c (limit-few (length work)) user attempts)
 
 pub demand-3 : Demand-3
-demand-3 R blank mode limits old new work plan client user attempts z read = emitted-runs blank mode limits old new work plan z user.contract attempts
+demand-3 R blank mode k old new work plan client user attempts z read = emitted-runs blank mode k old new work plan z user.contract attempts
 
 pub settled-runs : SettledRuns
-settled-runs R blank limits old new work plan user attempts z =
-    over-bytes blank settled limits old new work plan z (λ o n b. Settles limits user o n b attempts)
-    (λ c. accepted-settles limits (limit_of (length work)) (length plan) old new c (limit-few (length work)) user attempts)
+settled-runs R blank k old new work plan user attempts z =
+    over-bytes blank settled k old new work plan z (λ o n b. Settles k user o n b attempts)
+    (λ c. accepted-settles k (limit_of (length work)) (length plan) old new c (limit-few (length work)) user attempts)

@@ -24,6 +24,7 @@ move-of (m ∷ row) code to e = go (eqb m.code code) (eqb→eq m.code code) (mov
 -- the code of a move of the row is held
 pub code-held : (row : List Move) (m : Move) → Memᴰ m row → (to : ℕ) × (held row m.code ≡ some to)
 unfolding held
+code-held [] m x = elim x [ ]
 code-held (l ∷ row) m (Memᴰ.head e) =
     go (eqb l.code m.code) (subst (λ (x : Move). T (eqb x.code m.code)) e (eqb_refl m.code))
   where

@@ -11,7 +11,7 @@ use lib.ListN.{get_or, set, get_or-replicate}
 use lib.Seq.{get_or-set_other}
 use lib.Dec.{T, ltb}
 use Rattle.model.specs.Contract.{Contract, name, takes, state}
-use Rattle.model.specs.Situation.{Situation, start, Kind, straight, client, service, stray, kind_of, raised, lowered, buffer_after, offered, next}
+use Rattle.model.specs.Situation.{Situation, start, alike, Kind, straight, client, service, stray, kind_of, raised, lowered, buffer_after, offered, next}
 use Rattle.model.specs.Search.{at_start, by_move}
 use Rattle.model.specs.Demands.{IsReached}
 use Rattle.model.proofs.Lists.{cond-some}
@@ -38,29 +38,29 @@ module _ (limits b b' : List ℕ) (i j : ℕ) (other : i ≢ j) where
   either-other true o p f g e = f e
   either-other false o p f g e = g e
 
-module _ (limits : List ℕ) (σ τ : Contract) (σ-formed : WellFormed σ) (τ-formed : WellFormed τ) (same-n : σ.n ≡ τ.n) (i : ℕ) (action : i < 14) (beyond : σ.n ≤ name i) where
+module _ (k : ℕ) (σ τ : Contract) (σ-formed : WellFormed σ) (τ-formed : WellFormed τ) (same-n : σ.n ≡ τ.n) (i : ℕ) (action : i < 14) (beyond : σ.n ≤ name i) where
   -- an action of the contracts is another one
   another : (j : ℕ) → name j < σ.n → i ≢ j
   another j h e = absurd (omega (arith, beyond, h, ap name e))
 
   stays : (s : Situation) (b' : List ℕ) (kind : Kind) → OfAction kind → T (offered (state σ s.old) (state τ s.new) kind)
-      → buffer_after limits s.buffer kind ≡ some b' → get_or b' i 0 ≡ get_or s.buffer i 0
+      → buffer_after (alike k) s.buffer kind ≡ some b' → get_or b' i 0 ≡ get_or s.buffer i 0
   unfolding offered buffer_after
   stays s b' (straight j) h o e = ap (λ (l : List ℕ). get_or l i 0) (sym (some-injective s.buffer b' e))
   stays s b' (client j) h o e =
       let n = another j (σ-formed.named s.old j h o) in
-      either-other limits s.buffer b' i j n (takes j) (raised limits s.buffer j) (lowered s.buffer j)
-      (raised-other limits s.buffer b' i j n) (lowered-other limits s.buffer b' i j n) e
+      either-other (alike k) s.buffer b' i j n (takes j) (raised (alike k) s.buffer j) (lowered s.buffer j)
+      (raised-other (alike k) s.buffer b' i j n) (lowered-other (alike k) s.buffer b' i j n) e
   stays s b' (service j) h o e =
       let n = another j (omega (arith, τ-formed.named s.new j h o, same-n)) in
-      either-other limits s.buffer b' i j n (takes j) (lowered s.buffer j) (raised limits s.buffer j)
-      (lowered-other limits s.buffer b' i j n) (raised-other limits s.buffer b' i j n) e
+      either-other (alike k) s.buffer b' i j n (takes j) (lowered s.buffer j) (raised (alike k) s.buffer j)
+      (lowered-other (alike k) s.buffer b' i j n) (raised-other (alike k) s.buffer b' i j n) e
   stays s b' stray h o e = absurd (none-ne-some b' e)
 
   -- the count of an action whose name is beyond those of the contracts
-  pub unused-empty : {s : Situation} → IsReached limits σ τ s → get_or s.buffer i 0 ≡ 0
+  pub unused-empty : {s : Situation} → IsReached k σ τ s → get_or s.buffer i 0 ≡ 0
   unfolding start next
   unused-empty (at_start e) = subst⁻¹ (λ (s : Situation). get_or s.buffer i 0 ≡ 0) e (get_or-replicate 14 i 0 0 action)
   unused-empty (by_move {s = s} {t = t} code m x r) =
-      let w = enabled limits σ τ s t (kind_of code) x in
+      let w = enabled (alike k) σ τ s t (kind_of code) x in
       stays s t.buffer (kind_of code) (kind-action code) w.offers w.counts ∙ unused-empty r

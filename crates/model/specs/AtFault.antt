@@ -98,6 +98,6 @@ in_checked c = record { number = c.number; sheet = c.sheet; state = c.state; off
 
 -- "all its callers pass it on": connecting in either mode, and the client check
 pub record Carried : Type 1 where
-  pub connects : (R : Type 0) (blank : R) (mode : Mode) (limits : List ℕ) (old new : List ℕ) (work : List R) (plan : List ℕ)
-      → Carries old new (in_answer (connect_of blank mode limits old new work plan).answer)
+  pub connects : (R : Type 0) (blank : R) (mode : Mode) (k : ℕ) (old new : List ℕ) (work : List R) (plan : List ℕ)
+      → Carries old new (in_answer (connect_of blank mode k old new work plan).answer)
   pub complies : (client service : List ℕ) → Carries client service (in_checked (complies_of client service))

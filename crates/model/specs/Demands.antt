@@ -1,6 +1,6 @@
 -- What is promised: the three demands, what a yes of the client check means, and what the settled mode does, as types. They are proved by
 -- `demand-1`, `demand-2`, `demand-3` and `client-check` of proofs/Demand1.antt, Demand2.antt, Demand3.antt and ClientCheck.antt, and by
--- `settled-runs` and `settled-refuses` of Demand3 and Demand2, and `bound-alike` of Bound. A demand's own words stand above its type; other words in quotation marks are document 01's, or those of the request
+-- `settled-runs` and `settled-refuses` of Demand3 and Demand2. A demand's own words stand above its type; other words in quotation marks are document 01's, or those of the request
 -- of document 02 that is named.
 -- Assumes nothing.
 use Rattle.std.specs.Prelude.{◌≡◌, true, ◌↔◌, ◌⊎◌, ℕ, ◌*◌, ◌≤◌, ◌<◌, length, get_or, take, drop, T}
@@ -8,13 +8,12 @@ use mathlib.Core.List.{List, [], ◌∷◌, ◌++◌, map, Memᴰ}
 use Rattle.std.proofs.Math.Option.{none, some}
 use Rattle.std.proofs.Math.ListN.{get_elem?}
 use Rattle.model.specs.Lists.{Distinct}
-use Rattle.model.specs.Contract.{Contract, name, has, state}
-use Rattle.model.specs.Limits.{alike, allowed}
+use Rattle.model.specs.Contract.{Contract, has, state}
 use Rattle.model.specs.Sheet.{Sheet, good, Both, read_sheet, read_both, contract_in}
-use Rattle.model.specs.Situation.{Situation, start, codes, next}
+use Rattle.model.specs.Situation.{Situation, start, alike, codes, next}
 use Rattle.model.specs.Test.{Mode, paper, settled}
 use Rattle.model.specs.Search.{Reached}
-use Rattle.model.specs.Plan.{Move, held, rows_in, limits_in, Stepped, step_of}
+use Rattle.model.specs.Plan.{Move, held, rows_in, Stepped, step_of}
 use Rattle.model.specs.Connect.{Connected, limit_of, connect_of}
 use Rattle.model.specs.Client.{Complies, complies_of}
 use Rattle.model.specs.Run.{begin, Attempt, row_at_run, run_from, most_alone, Standstill}
@@ -46,8 +45,8 @@ pub record Steps (s : Stepped) : Type 0 where
 -- Demand 1: every entry point takes bytes of all kinds and lengths and answers with a result or a refusal of document 01's table. On a
 -- refusal the lent plan is untouched and the lent work table is as 01 says.
 pub record Demand-1 : Type 1 where
-  pub connects : (R : Type 0) (blank : R) (mode : Mode) (limits old new : List ℕ) (work : List R) (plan : List ℕ)
-      → Answers blank work plan (connect_of blank mode limits old new work plan)
+  pub connects : (R : Type 0) (blank : R) (mode : Mode) (k : ℕ) (old new : List ℕ) (work : List R) (plan : List ℕ)
+      → Answers blank work plan (connect_of blank mode k old new work plan)
   pub steps : (plan : List ℕ) (state code : ℕ) → Steps (step_of plan state code)
   pub complies : (client service : List ℕ) → (complies_of client service).number ≤ 9
 
@@ -57,15 +56,15 @@ emitted_plan c = take c.answer.length c.plan
 
 -- ---- demand 2
 
--- A pair within the limits of refusals 1 to 10: two service sheets over the same names, and fourteen limits of at most 3 each.
-pub record Admitted (limits old new : List ℕ) (sheets : Both) : Type 0 where
+-- A pair within the limits of refusals 1 to 10: two service sheets over the same names, and k at most 3.
+pub record Admitted (k : ℕ) (old new : List ℕ) (sheets : Both) : Type 0 where
   pub reads : read_both 0 0 old new ≡ good sheets
-  pub rank : (i : ℕ) → i < 14 → get_or limits i 0 ≤ 3
+  pub rank : k ≤ 3
 
-module _ (limits : List ℕ) (σ τ : Contract) where
+module _ (k : ℕ) (σ τ : Contract) where
   -- the situation is reached from the start by enabled moves
   abbrev pub IsReached : Situation → Type 0
-  IsReached s = Reached codes (next limits σ τ) start s
+  IsReached s = Reached codes (next (alike k) σ τ) start s
 
   -- more than so many situations are reached
   abbrev pub Exceed : ℕ → Type 0
@@ -76,15 +75,15 @@ module _ (limits : List ℕ) (σ τ : Contract) where
   ReachedCount count = (l : List Situation) × Distinct l × ((s : Situation) → Memᴰ s l ↔ IsReached s) × (length l ≡ count)
 
 -- with `asks`, what is asked of a set of moves at a situation
-module _ (asks : (ℕ → Type 0) → Situation → Type 0) (limits : List ℕ) (σ τ : Contract) where
+module _ (asks : (ℕ → Type 0) → Situation → Type 0) (k : ℕ) (σ τ : Contract) where
   -- some relation of definition 3.7 holds the situation
   abbrev pub Related : Situation → Type 1
-  Related s = Largest limits σ τ asks s
+  Related s = Largest (alike k) σ τ asks s
 
   -- "reached from the start by kept moves", which are those that lead into the largest relation
   pub data IsKept : Situation → Type 1 where
     kept_start : {s : Situation} → s ≡ start → IsKept s
-    kept_move : {s t : Situation} (code : ℕ) → Memᴰ code codes → next limits σ τ s code ≡ some t → Related t → IsKept s → IsKept t
+    kept_move : {s t : Situation} (code : ℕ) → Memᴰ code codes → next (alike k) σ τ s code ≡ some t → Related t → IsKept s → IsKept t
 
   -- The plan that bytes are holds every move that the largest relation of definition 3.7 allows, and no others: its state i
   -- stands for situation i of a list, the first of which is the start.
@@ -98,15 +97,15 @@ module _ (asks : (ℕ → Type 0) → Situation → Type 0) (limits : List ℕ) 
     -- no others: a code of row i is that of a move enabled in situation i, which leads into the largest relation, to the
     -- situation that the row's next state stands for
     pub only : (i code to : ℕ) (s : Situation) → get_elem? states i ≡ some s → held (get_or (rows_in bytes) i []) code ≡ some to
-        → (t : Situation) × Memᴰ code codes × (next limits σ τ s code ≡ some t) × Related t × (get_elem? states to ≡ some t)
+        → (t : Situation) × Memᴰ code codes × (next (alike k) σ τ s code ≡ some t) × Related t × (get_elem? states to ≡ some t)
     -- every: each such move has its code in row i, with the next state that stands for where it leads
-    pub every : (i code : ℕ) (s t : Situation) → get_elem? states i ≡ some s → Memᴰ code codes → next limits σ τ s code ≡ some t → Related t
+    pub every : (i code : ℕ) (s t : Situation) → get_elem? states i ≡ some s → Memᴰ code codes → next (alike k) σ τ s code ≡ some t → Related t
         → (to : ℕ) × (held (get_or (rows_in bytes) i []) code ≡ some to) × (get_elem? states to ≡ some t)
 
-module _ {R : Type 0} (blank : R) (mode : Mode) (limits old new : List ℕ) (sheets : Both) (work : List R) where
+module _ {R : Type 0} (blank : R) (mode : Mode) (k : ℕ) (old new : List ℕ) (sheets : Both) (work : List R) where
   -- the outcome and its number, by the plan that is lent
   abbrev pub outcome : List ℕ → Connected R
-  outcome plan = connect_of blank mode limits old new work plan
+  outcome plan = connect_of blank mode k old new work plan
 
   abbrev pub number : List ℕ → ℕ
   number plan = (outcome plan).answer.number
@@ -119,12 +118,12 @@ module _ {R : Type 0} (blank : R) (mode : Mode) (limits old new : List ℕ) (she
 
   -- some relation of definition 3.7 holds the start, with what the mode asks
   abbrev pub StartRelated : Type 1
-  StartRelated = Related (AsksAt mode σ τ) limits σ τ start
+  StartRelated = Related (AsksAt mode σ τ) k σ τ start
 
   -- what demand 2 says of an admitted pair, with these records and this plan lent
   pub record Decides (plan : List ℕ) : Type 1 where
     -- 11 exactly when the reached situations exceed the lent records or 4,096
-    pub capacity : (number plan ≡ 11) ↔ Exceed limits σ τ (limit_of (length work))
+    pub capacity : (number plan ≡ 11) ↔ Exceed k σ τ (limit_of (length work))
     -- else, where the plan fits, acceptance exactly if some relation of definition 3.7 holds the start
     pub accepts : (number plan ≡ 11 → ⊥) → (number plan ≡ 13 → ⊥) → (number plan ≡ 0) ↔ StartRelated
     -- and 12 exactly if none does
@@ -135,7 +134,7 @@ module _ {R : Type 0} (blank : R) (mode : Mode) (limits old new : List ℕ) (she
         × ((p : List ℕ) → size ≤ length p → (number p ≡ 0) × ((outcome p).answer.length ≡ size))
         × ((p : List ℕ) → length p < size → number p ≡ 13)
     -- the situations figure is the number of reached situations, and the rounds figure is no larger
-    pub situations : (number plan ≡ 11 → ⊥) → ReachedCount limits σ τ (outcome plan).answer.situations
+    pub situations : (number plan ≡ 11 → ⊥) → ReachedCount k σ τ (outcome plan).answer.situations
     pub rounds : (outcome plan).answer.rounds ≤ (outcome plan).answer.situations
     -- the plan states figure is the number of the emitted plan's rows; "for 12 the plan states are 0; for 13 all are real": the counts of
     -- any lent plan that is long enough
@@ -146,18 +145,15 @@ module _ {R : Type 0} (blank : R) (mode : Mode) (limits old new : List ℕ) (she
         × ((outcome plan).answer.states ≡ (outcome p).answer.states)
         × ((outcome plan).answer.rounds ≡ (outcome p).answer.rounds)
     -- an emitted plan holds every move that the largest relation allows, and no others
-    pub emitted : number plan ≡ 0 → HoldsLargest (AsksAt mode σ τ) limits σ τ (emitted_plan (outcome plan))
-    -- and bears the limits of the used names
-    pub limited : number plan ≡ 0 → (i : ℕ) → i < 14 → name i < σ.n → get_or (limits_in (emitted_plan (outcome plan))) i 0 ≡ get_or limits i 0
+    pub emitted : number plan ≡ 0 → HoldsLargest (AsksAt mode σ τ) k σ τ (emitted_plan (outcome plan))
 
 -- Demand 2: a pair within the limits is accepted if and only if some weak k-subcontract relation (definition 3.7 of Padovani 2010) holds
 -- the starting situation; else it is refused as 12. The plan holds every move that the largest such relation allows, and no others. "Demand
--- 2 speaks of both tests" (document 02, request 5/13): in either mode. It reads "each count's own limit for k" (request 8/13): for every
--- list of fourteen limits.
+-- 2 speaks of both tests" (document 02, request 5/13): in either mode.
 abbrev pub Demand-2 : Type 1
 Demand-2 =
-    (R : Type 0) (blank : R) (mode : Mode) (limits old new : List ℕ) (sheets : Both) (work : List R) (plan : List ℕ)
-    → Admitted limits old new sheets → Decides blank mode limits old new sheets work plan
+    (R : Type 0) (blank : R) (mode : Mode) (k : ℕ) (old new : List ℕ) (sheets : Both) (work : List R) (plan : List ℕ)
+    → Admitted k old new sheets → Decides blank mode k old new sheets work plan
 
 -- ---- the client check
 
@@ -176,7 +172,7 @@ pub record Follows (row : List Move) (code : ℕ) (s : Stepped) : Type 0 where
   pub stays : held row code ≡ none → s ≡ record { number = 16; state = 0 }
 
 -- what demand 3 says of a plan's bytes, for a list of attempts with a client, the old contract and the new one
-pub record Runs (limits : List ℕ) (user old new : Contract) (bytes : List ℕ) (attempts : List Attempt) : Type 0 where
+pub record Runs (k : ℕ) (user old new : Contract) (bytes : List ℕ) (attempts : List Attempt) : Type 0 where
   -- "At each attempt, refused or not", stepping follows the row of the run's plan state
   pub steps : (before after : List Attempt) (a : Attempt) → attempts ≡ before ++ a ∷ after
       → Follows (row_at_run user new (rows_in bytes) (run_from user new (rows_in bytes) begin before)) a.code
@@ -184,29 +180,24 @@ pub record Runs (limits : List ℕ) (user old new : Contract) (bytes : List ℕ)
   -- "After the list, if the client complies with the old contract, a choice is a standstill only if R has the success mark"
   pub no_standstill : Complies user old
       → (R S : ℕ) → Standstill user new (rows_in bytes) (run_from user new (rows_in bytes) begin attempts) R S → T (has R 14)
-  -- "Refused attempts left out, at most 2 times k times n moves of codes 32+j come in a row": "The service-alone bound becomes the sum of all
-  -- limits over used names" (document 02, request 8/13)
-  pub few_alone : most_alone user new (rows_in bytes) attempts ≤ allowed new.n limits
+  -- "Refused attempts left out, at most 2 times k times n moves of codes 32+j come in a row"
+  pub few_alone : most_alone user new (rows_in bytes) attempts ≤ 2 * k * new.n
 
 -- Demand 3: one claim about the whole list of attempted moves of a run of an emitted plan, for any client; in either mode.
 abbrev pub Demand-3 : Type 1
 Demand-3 =
-    (R : Type 0) (blank : R) (mode : Mode) (limits old new : List ℕ) (work : List R) (plan : List ℕ) (client : List ℕ) (user : Sheet)
+    (R : Type 0) (blank : R) (mode : Mode) (k : ℕ) (old new : List ℕ) (work : List R) (plan : List ℕ) (client : List ℕ) (user : Sheet)
     (attempts : List Attempt)
-    → (connect_of blank mode limits old new work plan).answer.number ≡ 0 → read_sheet client ≡ good user
-    → Runs limits user.contract (contract_in old) (contract_in new) (emitted_plan (connect_of blank mode limits old new work plan)) attempts
-
--- "the old k means all alike": the bound is 2 times k times n then.
-abbrev pub BoundAlike : Type 0
-BoundAlike = (n k : ℕ) → n ≤ 7 → allowed n (alike k) ≡ 2 * k * n
+    → (connect_of blank mode k old new work plan).answer.number ≡ 0 → read_sheet client ≡ good user
+    → Runs k user.contract (contract_in old) (contract_in new) (emitted_plan (connect_of blank mode k old new work plan)) attempts
 
 -- ---- settled plans: document 02, request 5/13
 
 -- what is said of a settled plan's bytes, for a list of attempts with a client, the old contract and the new one
-pub record Settles (limits : List ℕ) (user old new : Contract) (bytes : List ℕ) (attempts : List Attempt) : Type 0 where
+pub record Settles (k : ℕ) (user old new : Contract) (bytes : List ℕ) (attempts : List Attempt) : Type 0 where
   -- the situation that the moves made so far lead to, with the old state of the run and the messages that wait
   pub at : Situation
-  pub leads : situation_after limits old new (history user new (rows_in bytes) attempts) ≡ some at
+  pub leads : situation_after (alike k) old new (history user new (rows_in bytes) attempts) ≡ some at
   -- "no run stands still ... where the old state has an empty ready set and a message still waits for the service"
   pub none_waits : (R S : ℕ) → Standstill user new (rows_in bytes) (run_from user new (rows_in bytes) begin attempts) R S
       → Rests (state old at.old) → Waits at.buffer → ⊥
@@ -215,12 +206,12 @@ pub record Settles (limits : List ℕ) (user old new : Contract) (bytes : List �
 -- waits for the service": over every list of attempts, and for any contract that the client has, complying or not.
 abbrev pub SettledRuns : Type 1
 SettledRuns =
-    (R : Type 0) (blank : R) (limits old new : List ℕ) (work : List R) (plan : List ℕ) (user : Contract) (attempts : List Attempt)
-    → (connect_of blank settled limits old new work plan).answer.number ≡ 0
-    → Settles limits user (contract_in old) (contract_in new) (emitted_plan (connect_of blank settled limits old new work plan)) attempts
+    (R : Type 0) (blank : R) (k : ℕ) (old new : List ℕ) (work : List R) (plan : List ℕ) (user : Contract) (attempts : List Attempt)
+    → (connect_of blank settled k old new work plan).answer.number ≡ 0
+    → Settles k user (contract_in old) (contract_in new) (emitted_plan (connect_of blank settled k old new work plan)) attempts
 
 -- What is refused as 12 in the paper's mode is refused as 12 in the settled one: its relations are among those of definition 3.7.
 abbrev pub SettledRefuses : Type 1
 SettledRefuses =
-    (R : Type 0) (blank : R) (limits old new : List ℕ) (work : List R) (plan : List ℕ)
-    → (connect_of blank paper limits old new work plan).answer.number ≡ 12 → (connect_of blank settled limits old new work plan).answer.number ≡ 12
+    (R : Type 0) (blank : R) (k : ℕ) (old new : List ℕ) (work : List R) (plan : List ℕ)
+    → (connect_of blank paper k old new work plan).answer.number ≡ 12 → (connect_of blank settled k old new work plan).answer.number ≡ 12

@@ -1,7 +1,6 @@
 pub mod Lists
 pub mod Bytes
 pub mod Contract
-pub mod Limits
 pub mod Sheet
 pub mod Situation
 pub mod Test

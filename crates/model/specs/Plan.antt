@@ -4,10 +4,9 @@
 use Rattle.std.specs.Prelude.{Bool, true, false, cond, ◌&&◌, List, [], ◌∷◌, ◌++◌, map, ℕ, zero, suc, ◌+◌, ◌-◌, ◌*◌, length, get_or, eqb, ltb, leb}
 use Rattle.std.proofs.Math.Option
 use Rattle.std.proofs.Math.Option.{Option, none, some}
-use Rattle.model.specs.Lists.{all, place, upto}
+use Rattle.model.specs.Lists.{all, place}
 use Rattle.model.specs.Bytes.{byte, word, dword, le16, le32}
 use Rattle.model.specs.Contract.{name}
-use Rattle.model.specs.Limits.{alike, are_alike, in_range}
 use Rattle.model.specs.Situation.{Kind, straight, client, service, stray, kind_of}
 use Rattle.model.specs.Search.{search_from}
 use Rattle.model.specs.Rounds.{moves_into, within}
@@ -43,8 +42,7 @@ module _ {S : Type 0} (same : S → S → Bool) (codes : List ℕ) (next : S →
   plan_rows = map row_of plan_states
 
 -- ---- the bytes: "rows ...; an index of 32-bit offsets; a trailer of 8 bytes: 32-bit offset of the index, 16-bit state
--- count (1 to 4,096), n (0 to 7), k (0 to 3). There are no gaps". Document 02, request 8/13: "Plans with limits unlike among all fourteen
--- have 128 in the k byte and 2 times n limit bytes between index and trailer, the n for the service first."
+-- count (1 to 4,096), n (0 to 7), k (0 to 3). There are no gaps"
 
 -- the moves of a row
 unfoldable pub move_bytes : List Move → List ℕ
@@ -65,20 +63,10 @@ unfoldable pub index_bytes : ℕ → List (List Move) → List ℕ
 index_bytes i [] = []
 index_bytes i (row ∷ rows) = le32 i ++ index_bytes (i + length (row_bytes row)) rows
 
--- the k byte
-unfoldable pub rank_byte : List ℕ → ℕ
-rank_byte limits = cond (are_alike limits) (get_or limits 0 0) 128
-
--- "2 times n limit bytes ..., the n for the service first"; none where the limits are alike
-unfoldable pub limit_bytes : ℕ → List ℕ → List ℕ
-limit_bytes n limits =
-    cond (are_alike limits) [] (map (λ i. get_or limits i 0) (upto 0 n) ++ map (λ i. get_or limits (7 + i) 0) (upto 0 n))
-
--- rows, index, limit bytes, trailer
-unfoldable pub plan_bytes : ℕ → List ℕ → List (List Move) → List ℕ
-plan_bytes n limits rows =
-    rows_bytes rows ++ (index_bytes 0 rows
-    ++ (limit_bytes n limits ++ (le32 (length (rows_bytes rows)) ++ (le16 (length rows) ++ n ∷ rank_byte limits ∷ []))))
+-- rows, index, trailer
+unfoldable pub plan_bytes : ℕ → ℕ → List (List Move) → List ℕ
+plan_bytes n k rows =
+    rows_bytes rows ++ (index_bytes 0 rows ++ (le32 (length (rows_bytes rows)) ++ (le16 (length rows) ++ n ∷ k ∷ [])))
 
 -- ---- reading
 
@@ -119,30 +107,14 @@ module _ (b : List ℕ) (index count n : ℕ) where
 -- what a plan's bytes say
 pub record Plan : Type 0 where
   pub n : ℕ
-  pub limits : List ℕ
+  pub k : ℕ
   pub rows : List (List Move)
 
--- one limit byte for each name from i on; an unused name has none, and its limit is 0 here
-unfoldable pub limits_from : List ℕ → (i n : ℕ) → List ℕ
-limits_from b i n = map (λ j. cond (ltb j n) (byte b (i + j)) 0) (upto 0 7)
-
--- the limits of a plan over n names, whose limit bytes stand from i on if its k byte says that it has some
-unfoldable pub read_limits : List ℕ → (i n k : ℕ) → List ℕ
-read_limits b i n k = cond (eqb k 128) (limits_from b i n ++ limits_from b (i + n) n) (alike k)
-
--- how many limit bytes there are
-unfoldable pub limit_count : (n k : ℕ) → ℕ
-limit_count n k = cond (eqb k 128) (2 * n) 0
-
--- the plan with this trailer; "limit bytes are each 0 to 3 and may be alike", and so is k
+-- the plan with this trailer
 unfoldable pub read_with : List ℕ → (index count n k : ℕ) → Option Plan
 read_with b index count n k =
-    let limits = read_limits b (index + 4 * count) n k in
-    let rows = Option.map {B = Plan} (λ (rs : List (List Move)). record { n = n; limits = limits; rows = rs }) (read_rows b index count n count 0 0) in
-    cond
-    (leb 8 (length b)
-    && (leb 1 count && (leb count 4096 && (leb n 7 && (eqb (index + 4 * count + limit_count n k + 8) (length b) && in_range limits)))))
-    rows none
+    let rows = Option.map {B = Plan} (λ (rs : List (List Move)). record { n = n; k = k; rows = rs }) (read_rows b index count n count 0 0) in
+    cond (leb 8 (length b) && (leb 1 count && (leb count 4096 && (leb n 7 && (leb k 3 && eqb (index + 4 * count + 8) (length b)))))) rows none
 
 -- the plan that bytes are, if they have the plan layout
 unfoldable pub read_plan : List ℕ → Option Plan
@@ -158,15 +130,6 @@ rows_of (some p) = p.rows
 -- the same of bytes
 unfoldable pub rows_in : List ℕ → List (List Move)
 rows_in b = rows_of (read_plan b)
-
--- the limits of the plan that bytes are; none if they are no plan
-unfoldable pub limits_of : Option Plan → List ℕ
-limits_of none = []
-limits_of (some p) = p.limits
-
--- the same of bytes
-unfoldable pub limits_in : List ℕ → List ℕ
-limits_in b = limits_of (read_plan b)
 
 -- ---- stepping: "takes plan, state and code and gives the next state, or 0 with a refusal"; refusals 14, 15, 16
 

@@ -1,5 +1,7 @@
 // The row of a state in whichever of two sheets is named: its own bytes, which part of the sheet they are, or why there are none. Document
 // 02, request 6/13.
+#![tactic(auto)]
+
 ghost use Rattle.std.specs.Prelude.{◌≡◌};
 ghost use Rattle.model.specs.Contract.{state};
 ghost use Rattle.model.specs.Sheet.{row_start, contract_in};
@@ -11,7 +13,7 @@ use sheet::Finding;
 
 // A part of one of two sheets: the sheet, 1 or 2, the offset in it at which the part begins, and how long the part is.
 #[repr(C)]
-#[derive(Drop)]
+#[derive(Clone, Copy)]
 pub struct Part {
     pub sheet: u8,
     pub offset: u16,
@@ -20,7 +22,7 @@ pub struct Part {
 
 // Why no row is handed back: number, sheet and state, and the offset of the byte at fault; all 0 where there is a row.
 #[repr(C)]
-#[derive(Drop)]
+#[derive(Clone, Copy)]
 pub struct RowRefusal {
     pub number: u8,
     pub sheet: u8,
@@ -29,7 +31,7 @@ pub struct RowRefusal {
 }
 
 // The part that a row is, or a refusal: number, sheet, state, offset of the byte at fault.
-#[derive(Drop)]
+#[derive(Clone, Copy)]
 enum Found {
     At(Part),
     Refused(u8, u8, u8, u16),

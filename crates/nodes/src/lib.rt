@@ -1,5 +1,7 @@
 // Sheets from nodes: the sheet of a contract whose states stand in tables of numbers, written into what is lent. Request 1/13: "A
 // converter writes an ordinary sheet".
+#![tactic(auto)]
+
 ghost use Rattle.std.specs.Prelude.{◌≡◌};
 ghost use Rattle.model.specs.Sheet.{good};
 ghost use Rattle.nodes.specs.SheetBytes.{sheet_bytes};
@@ -14,7 +16,7 @@ use write::{put_index, put_rows, put_trailer, rows_length};
 
 // What a converter answers: number, sheet and state of a refusal, and the length of what it wrote.
 #[repr(C)]
-#[derive(Drop)]
+#[derive(Clone, Copy)]
 pub struct SheetAnswer {
     pub number: u8,
     pub sheet: u8,

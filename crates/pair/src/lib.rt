@@ -1,4 +1,6 @@
 // Two sheets in their places: refusals 1 to 9. Document 01, "Refusals and their order".
+#![tactic(auto)]
+
 ghost use Rattle.std.specs.Prelude.{◌≡◌};
 ghost use Rattle.model.specs.Sheet.{read_both};
 ghost use Rattle.sheet.specs.Whole.{IsSheet};
@@ -7,7 +9,7 @@ ghost use Rattle.pair.specs.Pairs.{pair_of};
 use sheet::Finding;
 
 // Two sheets that can be used together, or a refusal: number, sheet, state, offset of the byte at fault.
-#[derive(Drop)]
+#[derive(Clone, Copy)]
 pub enum Pair {
     Good,
     Refused(u8, u8, u8, u16),

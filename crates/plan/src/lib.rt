@@ -1,4 +1,6 @@
 // Plans as bytes. Document 01, "Which pairs connect" and "The client check and the run".
+#![tactic(auto)]
+
 pub mod read;
 pub mod write;
 
@@ -13,7 +15,7 @@ use little_endian::{dword_at, word_at};
 
 // The answer of a step: number 0 and the next state, or a refusal's number and 0.
 #[repr(C)]
-#[derive(Drop)]
+#[derive(Clone, Copy)]
 pub struct Stepped {
     pub number: u8,
     pub state: u16,
@@ -44,7 +46,7 @@ fn step_row(plan: &[u8], first: usize, size: usize, code: u8) -> Stepped
 }
 
 // Where the moves of a row stand: the first of them, and how many there are.
-#[derive(Drop)]
+#[derive(Clone, Copy)]
 pub struct Row {
     pub first: usize,
     pub size: usize,
@@ -64,7 +66,7 @@ pub fn row_of(plan: &[u8], state: u16) -> Row
 }
 
 // The names and the rank that a plan is over.
-#[derive(Drop)]
+#[derive(Clone, Copy)]
 pub struct Figures {
     pub n: u8,
     pub k: u8,

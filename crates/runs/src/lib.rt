@@ -1,6 +1,8 @@
 // Runs of plans, for the test program run_cases. A case is a client sheet, a service sheet and a plan, each behind its length, and attempts
 // of five bytes: R and S (16 bits each) and a code. Its lines: for each attempt 1 for a move or 0, and number and next state of stepping;
 // then the state after the list.
+#![tactic(auto)]
+
 mod standstills;
 
 ghost use Rattle.std.specs.Prelude.{◌≡◌, []};
@@ -16,7 +18,7 @@ ghost use Rattle.runs.specs.Runs.{run_of, MoveReady, attempts_in};
 use crate::standstills::{Standstills, count_standstills};
 
 // The three states of a run, how many service-alone moves came right before, and the most that came in a row.
-#[derive(Drop)]
+#[derive(Clone, Copy)]
 pub struct Run {
     pub client: u8,
     pub service: u8,

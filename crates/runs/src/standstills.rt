@@ -5,7 +5,7 @@ ghost use Rattle.sheet.specs.Whole.{IsState};
 use crate::need_met;
 
 // How many standstills there are, and how many of them lack the success mark.
-#[derive(Drop)]
+#[derive(Clone, Copy)]
 pub struct Standstills {
     pub all: u16,
     pub unmarked: u16,

@@ -1,4 +1,6 @@
 // Contract sheets: whether bytes are a sheet, and what stands in one. Document 01, "Contracts as sheets".
+#![tactic(auto)]
+
 ghost use Rattle.std.specs.Prelude.{◌≡◌, ◌^◌, ◌≤◌, ◌<◌, length, get_or};
 ghost use Rattle.model.specs.Bytes.{byte};
 ghost use Rattle.model.specs.Contract.{partner, state, has, after};
@@ -18,7 +20,7 @@ pub const ACTION_BITS: u16 = 16384;
 
 // Whether bytes are a sheet: whole, or a fault with its number in document 01's table, the state and the offset of the
 // byte at fault.
-#[derive(Drop)]
+#[derive(Clone, Copy)]
 pub enum Finding {
     Whole,
     Fault(u8, u8, u16),
@@ -26,7 +28,7 @@ pub enum Finding {
 
 // What a state offers: its actions, as a mask, and where the successors in its row begin.
 #[repr(C)]
-#[derive(Drop)]
+#[derive(Clone, Copy)]
 pub struct Offer {
     pub actions: u16,
     pub successors: usize,

@@ -14,7 +14,7 @@ use little_endian::word_at;
 const ABOVE_MASKS: u32 = 65536;
 
 // The last 6 bytes of a sheet.
-#[derive(Drop)]
+#[derive(Clone, Copy)]
 pub struct Trailer {
     pub index: u16,
     pub count: u8,
@@ -24,21 +24,21 @@ pub struct Trailer {
 }
 
 // Masks seen in one pass: their union, and the first that is out of order, counted from 0, or how many there are.
-#[derive(Drop)]
+#[derive(Clone, Copy)]
 pub struct Scanned {
     pub union: u16,
     pub low: usize,
 }
 
 // The masks of a row: their union, or the first fault.
-#[derive(Drop)]
+#[derive(Clone, Copy)]
 pub enum Masks {
     Union(u16),
     Fault(u8, u8, u16),
 }
 
 // A row: where the next one begins, or its first fault.
-#[derive(Drop)]
+#[derive(Clone, Copy)]
 pub enum Row {
     Behind(usize),
     Fault(u8, u8, u16),

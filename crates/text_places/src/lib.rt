@@ -1,5 +1,7 @@
 // What is kept of the places that can be in a state, in tables of numbers: their ready sets, and the prefixes whose steps can be made from
 // them. Request 7/13.
+#![tactic(auto)]
+
 ghost use Rattle.std.specs.Prelude.{◌≡◌, List, [], min, ℕ, ◌+◌, ◌-◌, ◌*◌, ◌≤◌, ◌<◌, length, get_or};
 ghost use Rattle.place_sets.specs.PlaceSets.{number_of, set_at};
 ghost use Rattle.text.specs.Places.{Sense};

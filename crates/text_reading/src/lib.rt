@@ -1,5 +1,7 @@
 // Contracts typed as text, read by recursive descent into cells: the depth that is left falls at each call of its own, and a chain of + or
 // of (+) is a loop. Request 7/13.
+#![tactic(auto)]
+
 ghost use Rattle.std.specs.Prelude.{◌≡◌, false, ◌&&◌, [], ◌∷◌, ◌++◌, ◌+◌, ◌≤◌, ◌<◌, length, get_or, take, drop, leb};
 ghost use Rattle.text.specs.Grammar.{variable};
 ghost use Rattle.text.specs.Parser.{acted, bracketed, looped, expects};
@@ -9,7 +11,7 @@ ghost use Rattle.text_reading.specs.Reading.{InRec, CellPut, RecHead, Ready, Rea
 
 // Where reading stands: whether it can go on; the byte; what leads to the part that was read; how many places and recs were found; and the
 // first variable at fault, 256 if there is none.
-#[derive(Drop)]
+#[derive(Clone, Copy)]
 pub struct Read {
     pub ok: bool,
     pub at: usize,
@@ -20,7 +22,7 @@ pub struct Read {
 }
 
 // The variables at a place: those with a rec, those with a prefix between their rec and here, each as a bit; and the recs' numbers.
-#[derive(Drop)]
+#[derive(Clone, Copy)]
 pub struct Scope {
     pub recs: u8,
     pub prefixed: u8,

@@ -1,6 +1,8 @@
 // The ready sets of a place, told the cells of all places: a family of masks is joined with each part in turn. The families of the bodies
 // of the first recs are made once and held: where one of these bodies is met, the family is joined with the one that is held. Request 7/13,
 // "ready sets of + are all unions of one from each side".
+#![tactic(auto)]
+
 ghost use Rattle.std.specs.Prelude.{◌≡◌, ℕ, ◌+◌, ◌*◌, ◌^◌, ◌≤◌, ◌<◌, length, get_or, T};
 ghost use Rattle.std.specs.Int.Bits.{bit_or};
 ghost use Rattle.model.specs.Contract.{has};

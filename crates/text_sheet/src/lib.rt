@@ -1,4 +1,6 @@
 // Contracts typed as text, converted into ordinary sheets: the entry points. Request 7/13, "Contracts typed as text".
+#![tactic(auto)]
+
 ghost use Rattle.std.specs.Prelude.{◌≡◌, List, ◌^◌, ◌≤◌, ◌<◌, length};
 ghost use Rattle.nodes.specs.Answer.{written_by};
 ghost use Rattle.nodes.specs.Filled.{found_into};

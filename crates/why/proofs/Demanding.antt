@@ -50,7 +50,7 @@ demand-meets r d m apart =
     asked = map (λ j. 2 ^ partner j) (keep (has r) actions)
 
 -- so has a ready set of the client, of each ready set of the contract
-demands-meet : {ready : List ℕ} {S : ℕ} (R : ℕ) → Memᴰ S ready → Memᴰ R (demands_of_all ready) → Apart R S → T (has R 14)
+demands-meet : {S : ℕ} {ready : List ℕ} (R : ℕ) → Memᴰ S ready → Memᴰ R (demands_of_all ready) → Apart R S → T (has R 14)
 unfolding demands_of_all
 demands-meet R (mathlib.Core.List.Memᴰ.head {x = r} {xs = ready} e) m apart =
     let w = combine-elim bit_or R (demands_of r) (demands_of_all ready) m in
