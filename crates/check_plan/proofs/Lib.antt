@@ -1,4 +1,3 @@
 pub mod Admitting
 pub mod Walking
 pub mod Outcomes
-pub mod calls

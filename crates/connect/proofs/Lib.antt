@@ -3,4 +3,3 @@ pub mod Emitting
 pub mod Relating
 pub mod Connecting
 pub mod Outcomes
-pub mod calls

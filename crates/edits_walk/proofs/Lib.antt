@@ -6,4 +6,3 @@ pub mod Visiting
 pub mod Rows
 pub mod Expanding
 pub mod Walking
-pub mod calls

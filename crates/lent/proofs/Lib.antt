@@ -1,4 +1,3 @@
 pub mod Checks
 pub mod Counts
 pub mod Gives
-pub mod calls

@@ -2,4 +2,3 @@ pub mod Front
 pub mod OneByOne
 pub mod Writing
 pub mod Halves
-pub mod calls

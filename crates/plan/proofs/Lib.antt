@@ -5,4 +5,3 @@ pub mod Places
 pub mod Trailer
 pub mod Stands
 pub mod Written
-pub mod calls

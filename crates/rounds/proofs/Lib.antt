@@ -1,2 +1,1 @@
 pub mod records
-pub mod calls

@@ -11,4 +11,3 @@ pub mod Answers
 pub mod RowAnswers
 pub mod SheetAnswers
 pub mod ReadySets
-pub mod calls

@@ -1,10 +1,3 @@
-pub mod Logic
-pub mod Lent
 pub mod Rest
 pub mod Front
-pub mod LocalTable
-pub mod Elements
-pub mod Places
 pub mod Branches
-pub mod Freed
-pub mod Clauses

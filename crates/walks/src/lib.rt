@@ -1,3 +1,2 @@
-// The room for walks: what the proofs of functions over a slice of records share. No code.
-
+// What proofs about parts of lent slices share. No code.
 #![tactic(auto)]
