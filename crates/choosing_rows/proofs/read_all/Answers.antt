@@ -1,0 +1,47 @@
+-- `choosing_rows::read_all` meets its contract. The invariant: row r stands at `at`, the tables hold those in front of it, and none of
+-- them is at fault. Assumes nothing.
+use Prim.Native.Nat.{◌-◌}
+use native.Mathlib.Omega.{arith}
+use Rattle.choosing_rows.proofs.Reading.{none_read, some_read}
+use Rattle.choosing_rows.proofs.AllRows.{all-fault, rows-begin, rows-room, rows-gap, rows_end}
+use Rattle.choosing_rows.proofs.AllRows.{rows-entry, rows-bad, rows_on}
+use Rattle.choosing_rows.proofs.read_all.Goals as goal
+
+pub loop-r-init : goal.loop-r-init
+loop-r-init c = rows-begin c.requires.1
+
+pub returns-then-word_at-at : goal.returns-then-word_at-at
+returns-then-word_at-at c =
+    let l = c.loop-r in
+    all-fault (rows-entry l.invariant (omega arith) _ c.word_at.ensures c.if-word_at-at.true)
+
+pub read_row-requires : goal.read_row-requires
+read_row-requires c =
+    (c.requires.0, rows-room c.loop-r.invariant (omega arith))
+
+pub returns-in-Bad : goal.returns-in-Bad
+returns-in-Bad c =
+    let l = c.loop-r in
+    all-fault
+    (rows-bad l.invariant (omega arith) _ c.word_at.ensures c.if-word_at-at.false
+    (none_read c.read_row.ensures c.in-Bad.is))
+
+pub loop-r-preserved : goal.loop-r-preserved
+loop-r-preserved c =
+    let placed = c.requires.0 in
+    let row = some_read c.read_row.ensures c.in-Behind.is in
+    rows_on c.loop-r.invariant (omega arith) _ c.word_at.ensures c.if-word_at-at.false row.1 (omega arith) (omega arith)
+    row.2
+
+pub overflow_sub-result : goal.overflow_sub-result
+overflow_sub-result c =
+    let placed = c.requires.0 in
+    omega (arith, placed.some_row)
+
+pub returns-then-at-index : goal.returns-then-at-index
+returns-then-at-index c =
+    let l = c.loop-r in
+    all-fault (rows-gap l.invariant (omega arith) c.if-at-index.true (omega arith))
+
+pub returns : goal.returns
+returns c = rows_end c.loop-r.invariant (omega arith) c.if-at-index.false

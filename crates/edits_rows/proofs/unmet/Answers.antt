@@ -1,0 +1,41 @@
+-- `edits_rows::unmet` meets its contract. The loop's invariant: the first move of the row that fails is the first from place i on.
+-- The measure is the number of moves left. Assumes nothing.
+use mathlib.Core.Path.{sym, ap, ◌∙◌}
+use mathlib.Core.Option.{Option, none}
+use Prim.Native.Nat.{ℕ, ◌-◌}
+use native.Mathlib.Omega.{arith}
+use borrow.Author.Tests.{not-true, not-false}
+use Rattle.edits.specs.Sound.{blamed}
+use Rattle.edits_rows.specs.Rows.{blame_from}
+use Rattle.edits_rows.proofs.FirstNot.{list-begin, list-none, list-here, list-more}
+use Rattle.edits_rows.proofs.RowCodes.{codes-number}
+use Rattle.edits_rows.proofs.unmet.Goals as goal
+
+pub loop-i-init : goal.loop-i-init
+loop-i-init c = list-begin (codes-number _ _ _)
+
+pub code_at-code-requires : goal.code_at-code-requires
+code_at-code-requires c = (c.requires, omega arith)
+
+pub met-requires : goal.met-requires
+met-requires c = tt
+
+pub returns-then-not-met : goal.returns-then-not-met
+unfolding blame_from blamed
+returns-then-not-met c =
+    let fails = sym c.met.ensures ∙ not-true _ c.if-not-met.true in
+    sym (ap (λ (o : Option ℕ). blame_from (blamed none o none none))
+    (list-here c.loop-i.invariant 0 (omega arith) c.code_at-code.ensures fails))
+
+pub loop-i-preserved : goal.loop-i-preserved
+loop-i-preserved c =
+    let passes = sym c.met.ensures ∙ not-false _ c.if-not-met.false in
+    list-more c.loop-i.invariant 0 (omega arith) c.code_at-code.ensures passes
+
+pub nothing-requires : goal.nothing-requires
+nothing-requires c = tt
+
+pub returns : goal.returns
+returns c =
+    c.nothing.ensures
+    ∙ sym (ap (λ (o : Option ℕ). blame_from (blamed none o none none)) (list-none c.loop-i.invariant (omega arith)))
