@@ -2,7 +2,6 @@
 -- in order, and the tables are converted. Assumes nothing.
 use mathlib.Core.Path.{refl, sym, ap, ◌∙◌}
 use native.Mathlib.Omega.{arith}
-use borrow.Author.Tests.{not-true, not-false}
 use Rattle.model.specs.Sheet.{Trailer}
 use Rattle.choosing.proofs.Read.{choosing-read, read-formed}
 use Rattle.choosing_rows.proofs.BlankRows.{blank-rows}
@@ -15,19 +14,19 @@ read_rows-requires c = blank-rows
 pub returns-then-not-read_rows : goal.returns-then-not-read_rows
 returns-then-not-read_rows c =
     record { outcome =
-    converted-other _ _ (c.read_rows.ensures.no_sheet (not-true _ c.if-not-read_rows.true))
+    converted-other _ _ (c.read_rows.ensures.no_sheet c.if-not-read_rows.true)
     c.refused.ensures
     }
 
 pub read_trailer-trailer-requires : goal.read_trailer-trailer-requires
 read_trailer-trailer-requires c =
-    let read = c.read_rows.ensures.sheet (not-false _ c.if-not-read_rows.false) in
+    let read = c.read_rows.ensures.sheet c.if-not-read_rows.false in
     let small = bytes_small c.args.choosing.now (λ i. omega (arith, c.type_inv.choosing i)) in
     (choosing-read _ small read.0 read.1).long
 
 pub lead-requires : goal.lead-requires
 lead-requires c =
-    let read = c.read_rows.ensures.sheet (not-false _ c.if-not-read_rows.false) in
+    let read = c.read_rows.ensures.sheet c.if-not-read_rows.false in
     let small = bytes_small c.args.choosing.now (λ i. omega (arith, c.type_inv.choosing i)) in
     let facts = choosing-read _ small read.0 read.1 in
     let few = ap (λ (t : Trailer). t.count) c.read_trailer-trailer.ensures in
@@ -35,7 +34,7 @@ lead-requires c =
 
 pub has_circle-requires : goal.has_circle-requires
 has_circle-requires c =
-    let read = c.read_rows.ensures.sheet (not-false _ c.if-not-read_rows.false) in
+    let read = c.read_rows.ensures.sheet c.if-not-read_rows.false in
     let small = bytes_small c.args.choosing.now (λ i. omega (arith, c.type_inv.choosing i)) in
     let facts = choosing-read _ small read.0 read.1 in
     let few = ap (λ (t : Trailer). t.count) c.read_trailer-trailer.ensures in
@@ -44,7 +43,7 @@ has_circle-requires c =
 pub returns-then-has_circle : goal.returns-then-has_circle
 returns-then-has_circle c =
     record { outcome =
-    let read = c.read_rows.ensures.sheet (not-false _ c.if-not-read_rows.false) in
+    let read = c.read_rows.ensures.sheet c.if-not-read_rows.false in
     let small = bytes_small c.args.choosing.now (λ i. omega (arith, c.type_inv.choosing i)) in
     let facts = choosing-read _ small read.0 read.1 in
     let trailer = c.read_trailer-trailer.ensures in
@@ -56,7 +55,7 @@ returns-then-has_circle c =
 
 pub rank-known-requires : goal.rank-known-requires
 rank-known-requires c =
-    let read = c.read_rows.ensures.sheet (not-false _ c.if-not-read_rows.false) in
+    let read = c.read_rows.ensures.sheet c.if-not-read_rows.false in
     let small = bytes_small c.args.choosing.now (λ i. omega (arith, c.type_inv.choosing i)) in
     let facts = choosing-read _ small read.0 read.1 in
     let trailer = c.read_trailer-trailer.ensures in
@@ -82,7 +81,7 @@ slice_bounds-convert_rows-end-3 c = sym (ranked-long c.rank-known.ensures).1
 pub convert_rows-requires : goal.convert_rows-requires
 convert_rows-requires c =
     record { tables =
-    let read = c.read_rows.ensures.sheet (not-false _ c.if-not-read_rows.false) in
+    let read = c.read_rows.ensures.sheet c.if-not-read_rows.false in
     let small = bytes_small c.args.choosing.now (λ i. omega (arith, c.type_inv.choosing i)) in
     let facts = choosing-read _ small read.0 read.1 in
     let trailer = c.read_trailer-trailer.ensures in
@@ -100,7 +99,7 @@ convert_rows-requires c =
 pub returns : goal.returns
 returns c =
     record { outcome =
-    let read = c.read_rows.ensures.sheet (not-false _ c.if-not-read_rows.false) in
+    let read = c.read_rows.ensures.sheet c.if-not-read_rows.false in
     let small = bytes_small c.args.choosing.now (λ i. omega (arith, c.type_inv.choosing i)) in
     let facts = choosing-read _ small read.0 read.1 in
     let trailer = c.read_trailer-trailer.ensures in

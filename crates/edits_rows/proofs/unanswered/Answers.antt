@@ -4,7 +4,6 @@ use mathlib.Core.Path.{sym, ap, ◌∙◌}
 use mathlib.Core.Option.{Option, none}
 use Prim.Native.Nat.{ℕ, ◌-◌}
 use native.Mathlib.Omega.{arith}
-use borrow.Author.Tests.{not-true, not-false}
 use Rattle.edits.specs.Sound.{blamed}
 use Rattle.edits_rows.specs.Rows.{blame_from}
 use Rattle.edits_rows.proofs.FirstNot.{list-begin, list-none, list-here, list-more}
@@ -21,13 +20,13 @@ ready_set-S-requires c =
 pub returns-then-not-answers : goal.returns-then-not-answers
 unfolding blame_from blamed
 returns-then-not-answers c =
-    let fails = sym c.answers.ensures ∙ not-true _ c.if-not-answers.true in
+    let fails = sym c.answers.ensures ∙ c.if-not-answers.true in
     sym (ap (λ (o : Option ℕ). blame_from (blamed none none o none))
     (list-here c.loop-i.invariant 0 (omega arith) c.ready_set-S.ensures fails))
 
 pub loop-i-preserved : goal.loop-i-preserved
 loop-i-preserved c =
-    let passes = sym c.answers.ensures ∙ not-false _ c.if-not-answers.false in
+    let passes = sym c.answers.ensures ∙ c.if-not-answers.false in
     list-more c.loop-i.invariant 0 (omega arith) c.ready_set-S.ensures passes
 
 pub nothing-requires : goal.nothing-requires

@@ -4,7 +4,6 @@ use mathlib.Core.Path.{sym, ap, ◌∙◌}
 use mathlib.Core.Option.{Option, none}
 use Prim.Native.Nat.{ℕ, ◌-◌}
 use native.Mathlib.Omega.{arith}
-use borrow.Author.Tests.{not-true, not-false}
 use Rattle.edits.specs.Sound.{blamed}
 use Rattle.edits_rows.specs.Rows.{blame_from}
 use Rattle.edits_rows.proofs.FirstNot.{list-begin, list-none, list-here, list-more}
@@ -23,13 +22,13 @@ met-requires c = tt
 pub returns-then-not-met : goal.returns-then-not-met
 unfolding blame_from blamed
 returns-then-not-met c =
-    let fails = sym c.met.ensures ∙ not-true _ c.if-not-met.true in
+    let fails = sym c.met.ensures ∙ c.if-not-met.true in
     sym (ap (λ (o : Option ℕ). blame_from (blamed none o none none))
     (list-here c.loop-i.invariant 0 (omega arith) c.code_at-code.ensures fails))
 
 pub loop-i-preserved : goal.loop-i-preserved
 loop-i-preserved c =
-    let passes = sym c.met.ensures ∙ not-false _ c.if-not-met.false in
+    let passes = sym c.met.ensures ∙ c.if-not-met.false in
     list-more c.loop-i.invariant 0 (omega arith) c.code_at-code.ensures passes
 
 pub nothing-requires : goal.nothing-requires

@@ -4,7 +4,6 @@ use mathlib.Core.Path.{sym, ap, ◌∙◌}
 use mathlib.Core.Option.{Option, none}
 use Prim.Native.Nat.{ℕ, ◌-◌}
 use native.Mathlib.Omega.{arith}
-use borrow.Author.Tests.{not-true, not-false}
 use Rattle.model.specs.Test.{hope}
 use Rattle.edits.specs.Sound.{blamed}
 use Rattle.edits_rows.specs.Rows.{blame_from}
@@ -22,13 +21,13 @@ ready_set-set-requires c =
 pub returns-then-not-hope : goal.returns-then-not-hope
 unfolding blame_from blamed
 returns-then-not-hope c =
-    let fails = sym c.hope.ensures ∙ not-true _ c.if-not-hope.true in
+    let fails = sym c.hope.ensures ∙ c.if-not-hope.true in
     sym (ap (λ (o : Option ℕ). blame_from (blamed none none none o))
     (list-here c.loop-place.invariant 0 (omega arith) c.ready_set-set.ensures fails))
 
 pub loop-place-preserved : goal.loop-place-preserved
 loop-place-preserved c =
-    let passes = sym c.hope.ensures ∙ not-false _ c.if-not-hope.false in
+    let passes = sym c.hope.ensures ∙ c.if-not-hope.false in
     list-more c.loop-place.invariant 0 (omega arith) c.ready_set-set.ensures passes
 
 pub nothing-requires : goal.nothing-requires

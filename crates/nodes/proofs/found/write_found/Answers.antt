@@ -1,7 +1,6 @@
 -- `nodes::found::write_found` meets its contract: each answer is that of the states found in the tables, whichever nodes they are of.
 -- Assumes nothing.
 use native.Mathlib.Omega.{arith}
-use borrow.Author.Tests.{not-true, not-false}
 use Rattle.nodes.specs.Answer.{written_by}
 use Rattle.nodes.proofs.Answering.{found-over, found-wide, found-held, found-good}
 use Rattle.nodes.proofs.found.write_found.Goals as goal
@@ -17,14 +16,14 @@ pub returns-then-not-all_few : goal.returns-then-not-all_few
 returns-then-not-all_few c =
     let few = c.if-known-gt-STATES.false in
     found-wide leads sets start c.args.n _ found (omega (arith, few))
-    c.all_few.ensures (not-true _ c.if-not-all_few.true) c.refused-then-not-all_few.ensures
+    c.all_few.ensures c.if-not-all_few.true c.refused-then-not-all_few.ensures
 
 pub write_sheet-requires : goal.write_sheet-requires
 write_sheet-requires c =
     record { held =
     let rooms = c.requires in
     let few = c.if-known-gt-STATES.false in
-    found-held rooms.0 rooms.1 rooms.2 (omega (arith, few)) c.all_few.ensures (not-false _ c.if-not-all_few.false)
+    found-held rooms.0 rooms.1 rooms.2 (omega (arith, few)) c.all_few.ensures c.if-not-all_few.false
     }
 
 pub returns : goal.returns
@@ -32,4 +31,4 @@ unfolding written_by
 returns c =
     let few = c.if-known-gt-STATES.false in
     found-good leads sets start c.args.n _ found (omega (arith, few))
-    c.all_few.ensures (not-false _ c.if-not-all_few.false) c.write_sheet.ensures
+    c.all_few.ensures c.if-not-all_few.false c.write_sheet.ensures

@@ -2,12 +2,12 @@
 -- masks counted with the first out of order of those left make up the first of all. Behind one out of order every mask is below `least`.
 -- Assumes nothing.
 use mathlib.Core.Path.{refl, sym, ◌∙◌}
-use mathlib.Core.Logic.{⊎_elim}
 use Prim.Native.Nat.{◌+◌, ◌-◌}
 use native.Mathlib.Omega.{arith}
 use Rattle.sheet.specs.Union.{union_of}
 use Rattle.sheet.proofs.Scan.{low-none, low-now, low-behind, low-over, union-last, union-behind}
 use Rattle.sheet.proofs.parts.scan_masks.Goals as goal
+use Rattle.sheet.proofs.parts.scan_masks.Goals.{then-least-mask, else-least-mask}
 
 pub loop-left-init : goal.loop-left-init
 unfolding union_of
@@ -20,14 +20,14 @@ loop-left-preserved c =
     let is = c.word_at-mask.ensures in
     let over = low-over b (λ i. omega (arith, c.type_inv.b i)) (l.left - 1) (l.i + 2) in
     let union = l.invariant.0 ∙ union-behind b l.i _ is l.union l.left (omega arith) in
-    ⊎_elim
-    (λ w.
-    let behind = low-behind b l.i _ is l.least l.left (omega arith) w.0.taken in
-    (union, rw (w.1, w.2) (omega (arith, l.invariant.1, behind)), omega (arith, w.2), omega arith))
-    (λ w.
-    let here = low-now b l.i _ is l.least l.left (omega arith) w.0.left in
-    (union, rw (w.1, w.2) (omega (arith, l.invariant.1, here, over)), omega (arith, w.2), omega arith))
-    c.if-least-mask.branch
+    elim c.if-least-mask.branch [
+      then-least-mask w ↦
+        let behind = low-behind b l.i _ is l.least l.left (omega arith) w.if-least-mask.true in
+        (union, rw (w.least-is, w.low-is) (omega (arith, l.invariant.1, behind)), omega (arith, w.low-is), omega arith)
+    | else-least-mask w ↦
+        let here = low-now b l.i _ is l.least l.left (omega arith) w.if-least-mask.false in
+        (union, rw (w.least-is, w.low-is) (omega (arith, l.invariant.1, here, over)), omega (arith, w.low-is), omega arith)
+    ]
 
 pub returns : goal.returns
 returns c =
