@@ -95,6 +95,8 @@ module _ {N : Type 0} (same : N → N → Bool) (isSame : IsSame same) (next : N
       → (o : Option ℕ) (p : Option N) → Alike o p
       → Alike (bind o (λ i. node_after (goes_on whole) i word)) (bind p (λ x. node_after next x word))
   unfolding bind
+  alike-bind word f none (some x) x3 = elim x3 [ ]
+  alike-bind word f (some i) none x3 = elim x3 [ ]
   alike-bind word f none none neither = neither
   alike-bind word f (some i) (some x) (both e) = f i x e
 
@@ -107,6 +109,8 @@ module _ {N : Type 0} (same : N → N → Bool) (isSame : IsSame same) (next : N
   -- state and node at one place have the same ready sets
   same_ready : (o : Option ℕ) (p : Option N) → Alike o p → map (λ (q : ℕ). (state whole q).ready) o ≡ map ready p
   unfolding state_of
+  same_ready none (some x) x3 = elim x3 [ ]
+  same_ready (some i) none x3 = elim x3 [ ]
   same_ready none none neither = refl
   same_ready (some i) (some x) (both e) = ap (λ (s : State). some s.ready) (state-is same isSame next ready start n lawful i x e)
 

@@ -6,7 +6,7 @@ use Rattle.choosing_rows.proofs.OpenRows.{GroupsSoFar}
 use Rattle.choosing_rows.proofs.read_groups.Given as goal
 
 abbrev pub invariant-loop-j : goal.invariant-loop-j
-invariant-loop-j l = GroupsSoFar l.b (trailer_of l.t) l.mask l.at l.initial.targets l.first l.targets l.j l.i
+invariant-loop-j l = GroupsSoFar l.b (trailer_of l.t) l.mask l.at l.first l.initial.targets l.targets l.j l.i
 
 abbrev pub decreases-loop-j : goal.decreases-loop-j
 decreases-loop-j l = 14 - l.j

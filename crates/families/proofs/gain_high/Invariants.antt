@@ -6,7 +6,7 @@ use Rattle.families.proofs.Gaining.{GainedWord}
 use Rattle.families.proofs.gain_high.Given as goal
 
 abbrev pub invariant-loop-w : goal.invariant-loop-w
-invariant-loop-w l = Replaced (GainedWord l.b (6 + l.initial.family)) l.b l.w l.family
+invariant-loop-w l = Replaced (GainedWord l.initial.family (6 + l.b)) l.initial.family l.w l.family
 
 abbrev pub decreases-loop-w : goal.decreases-loop-w
 decreases-loop-w l = l.w

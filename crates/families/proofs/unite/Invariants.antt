@@ -8,7 +8,7 @@ use Rattle.families.proofs.Replacing.{Replaced}
 use Rattle.families.proofs.unite.Given as goal
 
 abbrev pub invariant-loop-w : goal.invariant-loop-w
-invariant-loop-w l = Replaced (λ i (x : ℕ). x ≡ bit_or (get_or l.other i 0) (get_or l.initial.family i 0)) l.other l.w l.family
+invariant-loop-w l = Replaced (λ i (x : ℕ). x ≡ bit_or (get_or l.initial.family i 0) (get_or l.other i 0)) l.initial.family l.w l.family
 
 abbrev pub decreases-loop-w : goal.decreases-loop-w
 decreases-loop-w l = l.w

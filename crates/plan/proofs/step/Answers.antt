@@ -11,32 +11,23 @@ use Rattle.plan.specs.Step.{stepped_of}
 use Rattle.plan.proofs.Stands.{stands, step-no-plan, step-no-state, step-state}
 use Rattle.plan.proofs.step.Goals as goal
 
--- the bytes passed the layout test
-is_plan : (c : tie.Then1) → is_some (read_plan c.before.before.before.args.plan.now) ≡ true
-is_plan c = sym c.before.is_plan.ensures ∙ c.if1.true
-
--- and the state is one of the plan
-is_state : (c : tie.Else2) → c.before.before.before.before.before.args.state < length (rows_in
-    c.before.before.before.before.before.args.plan.now)
-is_state c = omega (arith, (stands _ (is_plan c.before.before)).size, c.before.word_at.ensures, c.if2.false)
-
 pub overflow_sub-plan : goal.overflow_sub-plan
-overflow_sub-plan c = omega (arith, (stands _ (is_plan c)).room)
+overflow_sub-plan c = omega (arith, (stands _ (sym c.is_plan.ensures ∙ c.if-is_plan.true)).room)
 
 pub word_at-requires : goal.word_at-requires
-word_at-requires c = record { within = omega (arith, (stands _ (is_plan c)).room) }
+word_at-requires c = record { within = omega (arith, (stands _ (sym c.is_plan.ensures ∙ c.if-is_plan.true)).room) }
 
 pub returns-then-word_at-state : goal.returns-then-word_at-state
 unfolding stepped_of
-returns-then-word_at-state c = ap stepped_of (step-no-state _ (is_plan c{-Then1-}) _ _ _ c.word_at.ensures c.if-word_at-state.true)
+returns-then-word_at-state c = ap stepped_of (step-no-state _ (sym c.is_plan.ensures ∙ c.if-is_plan.true) _ _ _ c.word_at.ensures c.if-word_at-state.true)
 
 pub row_of-row-requires : goal.row_of-row-requires
-row_of-row-requires c = is_state c
+row_of-row-requires c = omega (arith, (stands _ (sym c.is_plan.ensures ∙ c.if-is_plan.true)).size, c.word_at.ensures, c.if-word_at-state.false)
 
 pub returns-then-is_plan : goal.returns-then-is_plan
 returns-then-is_plan c =
     c.step_row.ensures
-    ∙ ap stepped_of (step-state _ _ _ (is_plan c{-Then1-}) (is_state c{-Else2-})
+    ∙ ap stepped_of (step-state _ _ _ (sym c.is_plan.ensures ∙ c.if-is_plan.true) (omega (arith, (stands _ (sym c.is_plan.ensures ∙ c.if-is_plan.true)).size, c.word_at.ensures, c.if-word_at-state.false))
     c.row_of-row.ensures)
 
 pub returns : goal.returns

@@ -11,8 +11,8 @@ use Rattle.nodes.proofs.write.put_index.Given as goal
 
 abbrev pub invariant-loop-q : goal.invariant-loop-q
 invariant-loop-q l =
-    ((next : List ℕ) → Writing (layout_index state_row_bytes 0 (states_in (record { l.sizes = l.sizes; l.ready = l.ready; next = next }) l.count))
-    (index_from (record { l.sizes = l.sizes; l.ready = l.ready; next = next }) l.count l.row l.q) l.at l.initial.out l.out) × (l.row ≤ 31 * l.q) × (l.q ≤ l.count)
+    ((next : List ℕ) → Writing (layout_index state_row_bytes 0 (states_in (record { sizes = l.sizes; ready = l.ready; next = next }) l.count))
+    (index_from (record { sizes = l.sizes; ready = l.ready; next = next }) l.count l.row l.q) l.at l.initial.out l.out) × (l.row ≤ 31 * l.q) × (l.q ≤ l.count)
 
 abbrev pub decreases-loop-q : goal.decreases-loop-q
 decreases-loop-q l = l.count - l.q

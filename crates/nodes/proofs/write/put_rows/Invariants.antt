@@ -9,8 +9,8 @@ use Rattle.nodes.proofs.write.put_rows.Given as goal
 
 abbrev pub invariant-loop-q : goal.invariant-loop-q
 invariant-loop-q l =
-    Writing (layout_rows state_row_bytes (states_in (record { l.sizes = l.sizes; l.ready = l.ready; l.next = l.next }) l.count))
-    (rows_from (record { l.sizes = l.sizes; l.ready = l.ready; l.next = l.next }) l.count l.q) l.at l.initial.out l.out × (l.q ≤ l.count)
+    Writing (layout_rows state_row_bytes (states_in (record { sizes = l.sizes; ready = l.ready; next = l.next }) l.count))
+    (rows_from (record { sizes = l.sizes; ready = l.ready; next = l.next }) l.count l.q) l.at l.initial.out l.out × (l.q ≤ l.count)
 
 abbrev pub decreases-loop-q : goal.decreases-loop-q
 decreases-loop-q l = l.count - l.q

@@ -3,7 +3,6 @@
 use mathlib.Core.Path.{refl, sym, ◌∙◌}
 use native.Mathlib.Omega.{arith}
 use Rattle.model.specs.Bytes.{byte}
-use Rattle.plan.proofs.Answers.{passed, failed}
 use Rattle.plan.proofs.Rows.{good-long, good-short, good_none, good-low, good-bad, good_more}
 use Rattle.plan.proofs.read.good_row.Goals as goal
 
@@ -25,7 +24,7 @@ pub returns-then-not-good_move : goal.returns-then-not-good_move
 unfolding byte
 returns-then-not-good_move c =
     let l = c.loop-left in
-    let bad = failed c.good_move.ensures c.if-not-good_move.true in
+    let bad = sym c.good_move.ensures ∙ c.if-not-good_move.true in
     sym (l.invariant.0 ∙ good-bad _ _ _ l.at l.low l.left (omega arith) c.if-code-low.false bad)
 
 pub overflow_add-low : goal.overflow_add-low
@@ -35,7 +34,7 @@ pub loop-left-preserved : goal.loop-left-preserved
 unfolding byte
 loop-left-preserved c =
     let l = c.loop-left in
-    let good = passed c.good_move.ensures c.if-not-good_move.false in
+    let good = sym c.good_move.ensures ∙ c.if-not-good_move.false in
     (l.invariant.0 ∙ good_more _ _ _ l.at l.low l.left (omega arith) c.if-code-low.false good, omega arith)
 
 pub returns : goal.returns

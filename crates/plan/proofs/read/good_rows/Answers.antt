@@ -7,50 +7,37 @@ use native.Mathlib.Omega.{arith}
 use native.Mathlib.Numerals.{unary_clauses}
 use Rattle.model.specs.Bytes.{byte}
 use Rattle.plan.specs.Layout.{good_place}
-use Rattle.plan.proofs.Answers.{passed, failed}
 use Rattle.plan.proofs.Places.{place-within, rows_end, rows-bad, rows_more}
 use Rattle.plan.proofs.read.good_rows.Goals as goal
-
--- what the test of row p says
-abbrev Placed : (c : tie.In-loop invariant-loop decreases-loop) → Bool → Type 0
-Placed c good =
-    let args = c.before.before.before.args in
-    good_place args.plan.now args.index args.count args.n c.before.loop.p c.before.loop.i ≡ good
-
-placed : (c : tie.Else1 invariant-loop decreases-loop) → Placed c.before.before true
-placed c = passed c.before.good-place.ensures c.if1.false
-
-misplaced : (c : tie.Then1 invariant-loop decreases-loop) → Placed c.before.before false
-misplaced c = failed c.before.good-place.ensures c.if1.true
 
 pub loop-p-init : goal.loop-p-init
 loop-p-init c = (simp unary_clauses, omega arith)
 
 pub returns-then-not-good_place : goal.returns-then-not-good_place
-returns-then-not-good_place c = let l = c.loop-p in sym (l.invariant.0 ∙ rows-bad _ _ _ _ _ l.p l.i (omega arith) (misplaced c))
+returns-then-not-good_place c = let l = c.loop-p in sym (l.invariant.0 ∙ rows-bad _ _ _ _ _ l.p l.i (omega arith) (sym c.good_place.ensures ∙ c.if-not-good_place.true))
 
 pub overflow_add-i : goal.overflow_add-i
-overflow_add-i c = omega (arith, (place-within _ _ _ _ _ _ (placed c)).1)
+overflow_add-i c = omega (arith, (place-within _ _ _ _ _ _ (sym c.good_place.ensures ∙ c.if-not-good_place.false)).1)
 
 pub bounds-plan-i : goal.bounds-plan-i
-bounds-plan-i c = omega (arith, (place-within _ _ _ _ _ _ (placed c{-Else1-})).1)
+bounds-plan-i c = omega (arith, (place-within _ _ _ _ _ _ (sym c.good_place.ensures ∙ c.if-not-good_place.false)).1)
 
 pub overflow_cast-i : goal.overflow_cast-i
 overflow_cast-i c = omega (arith, c.type_inv.plan c.loop-p.i)
 
 pub overflow_mul-i : goal.overflow_mul-i
 unfolding byte
-overflow_mul-i c = omega (arith, (place-within _ _ _ _ _ _ (placed c{-Else1-})).1)
+overflow_mul-i c = omega (arith, (place-within _ _ _ _ _ _ (sym c.good_place.ensures ∙ c.if-not-good_place.false)).1)
 
 pub overflow_add-i-in-loop-p : goal.overflow_add-i-in-loop-p
 unfolding byte
-overflow_add-i-in-loop-p c = omega (arith, (place-within _ _ _ _ _ _ (placed c{-Else1-})).1)
+overflow_add-i-in-loop-p c = omega (arith, (place-within _ _ _ _ _ _ (sym c.good_place.ensures ∙ c.if-not-good_place.false)).1)
 
 pub loop-p-preserved : goal.loop-p-preserved
 unfolding byte
 loop-p-preserved c = let l = c.loop-p in (
   l.invariant.0
-      ∙ rows_more _ _ _ _ _ l.p l.i (omega arith) (placed c{-Else1-}),
+      ∙ rows_more _ _ _ _ _ l.p l.i (omega arith) (sym c.good_place.ensures ∙ c.if-not-good_place.false),
   omega arith,
 )
 
