@@ -1,5 +1,6 @@
 -- `families::masks_in` meets its contract. The loop's invariant: n of the number's masks are written, and those of `rest` are left.
 -- Assumes nothing.
+use mathlib.Core.List.{[]}
 use mathlib.Core.Path.{◌≡◌, refl, sym, subst}
 use Prim.Native.Nat.{ℕ}
 use native.Mathlib.Omega.{arith}

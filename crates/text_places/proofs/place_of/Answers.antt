@@ -1,5 +1,6 @@
 -- `text_places::place_of` meets its contract: the tests of the code are those of the definition.
 -- Assumes nothing.
+use mathlib.Core.List.{[]}
 use mathlib.Core.Path.{sym}
 use native.Mathlib.Omega.{arith}
 use Rattle.text_places.proofs.Wanting.{place-itself, place-body}

@@ -10,11 +10,11 @@ place_of-requires c =
     link-leads cells bodies (behind-ends cells bodies c.requires.0 c.args.p c.requires.1 c.requires.2 c.if-cell-lt14.true)
 
 pub returns-then-cell-lt14 : goal.returns-then-cell-lt14
-returns-then-cell-lt14 c =
+returns-then-cell-lt14 c first is =
     let added = c.add_place.ensures in
     wanting-prefix _ _ c.requires.0 c.args.p c.requires.1 c.requires.2 is c.if-cell-lt14.true
     c.place_of.ensures added.0 added.1
 
 pub returns-else-cell-lt14 : goal.returns-else-cell-lt14
-returns-else-cell-lt14 c =
+returns-else-cell-lt14 c first is =
     wanting-choice _ _ c.requires.0 c.args.p c.requires.1 c.requires.2 is c.if-cell-lt14.false

@@ -31,6 +31,6 @@ find-known-requires c =
     )
 
 pub returns : goal.returns
-returns c =
+returns c senses explained =
     let found = c.find-known.ensures.3 senses explained in
     c.write_found.ensures (next_places senses) (ready_sets senses) _ found.0 found.1

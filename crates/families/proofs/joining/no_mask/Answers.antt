@@ -1,5 +1,6 @@
 -- `families::joining::no_mask` meets its contract. The loop's invariant: the numbers from w on are 0, as those behind the end of any list.
 -- Assumes nothing.
+use mathlib.Core.List.{[]}
 use Prim.Native.Nat.{◌-◌}
 use native.Mathlib.Omega.{arith}
 use lib.ListN.{length}

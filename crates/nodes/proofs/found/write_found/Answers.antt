@@ -6,14 +6,14 @@ use Rattle.nodes.proofs.Answering.{found-over, found-wide, found-held, found-goo
 use Rattle.nodes.proofs.found.write_found.Goals as goal
 
 pub returns-then-known-gt-STATES : goal.returns-then-known-gt-STATES
-returns-then-known-gt-STATES c =
+returns-then-known-gt-STATES c leads sets start nodes found =
     found-over leads sets start c.args.n _ found c.if-known-gt-STATES.true c.refused.ensures
 
 pub all_few-requires : goal.all_few-requires
 all_few-requires c = let rooms = c.requires in omega (arith, rooms.0, c.if-known-gt-STATES.false)
 
 pub returns-then-not-all_few : goal.returns-then-not-all_few
-returns-then-not-all_few c =
+returns-then-not-all_few c leads sets start nodes found =
     let few = c.if-known-gt-STATES.false in
     found-wide leads sets start c.args.n _ found (omega (arith, few))
     c.all_few.ensures c.if-not-all_few.true c.refused-then-not-all_few.ensures
@@ -28,7 +28,7 @@ write_sheet-requires c =
 
 pub returns : goal.returns
 unfolding written_by
-returns c =
+returns c leads sets start nodes found =
     let few = c.if-known-gt-STATES.false in
     found-good leads sets start c.args.n _ found (omega (arith, few))
-    c.all_few.ensures c.if-not-all_few.false c.write_sheet.ensures
+    c.all_few.ensures c.if-not-all_few.false c.write_sheet.ensures.answered

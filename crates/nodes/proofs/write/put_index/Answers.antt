@@ -2,7 +2,7 @@
 -- written, up to the place `at`, and the row of state q is at `row`.
 -- Assumes nothing.
 use mathlib.Core.Path.{refl}
-use mathlib.Core.List.{List}
+use mathlib.Core.List.{List, []}
 use Prim.Native.Nat.{ℕ, ◌-◌}
 use native.Mathlib.Omega.{arith}
 use Rattle.model.proofs.PlanBytes.{length-16}
