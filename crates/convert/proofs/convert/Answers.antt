@@ -107,5 +107,5 @@ returns c =
     let formed = read-formed _ small read.0 read.1 in
     let names = ap (λ (t : Trailer). t.n) trailer ∙ facts.names in
     converted-rows _ _ read.1 formed read.2 _ _ counted c.lead.ensures.1
-    c.has_circle.ensures c.if-has_circle.false c.rank-known.ensures _ names c.convert_rows.ensures
+    c.has_circle.ensures c.if-has_circle.false c.rank-known.ensures _ names c.convert_rows.ensures.outcome
     }
