@@ -1,0 +1,26 @@
+-- `numbering::write::write_index` meets its contract. The entries of the first p rows stand at the front of what was lent, up to `at`,
+-- and `row` is how many bytes these rows have. So the next entry is `row`; when these are all states, the index is written.
+-- Assumes nothing.
+use mathlib.Core.Path.{refl}
+use native.Mathlib.Omega.{arith}
+use Rattle.lists.proofs.numbering.Parts.{index-begun, index-written, entry-room, index-next}
+use Rattle.numbering.proofs.records.States.{rows-done, next-state, next_row}
+use Rattle.numbering.proofs.write.write_index.Goals as goal
+
+pub loop-p-init : goal.loop-p-init
+loop-p-init c = index-begun (kept_rows_at c.args.count c.args.work.now) c.args.out.now
+
+pub put_dword-requires : goal.put_dword-requires
+put_dword-requires c = record { room = entry-room (c.requires.writing.room) c.loop-p.invariant (next_row c.args.work.now (c.requires.writing.table) c.loop-p-test.true c.wide-last.ensures refl) }
+
+pub row_length_at-row-requires : goal.row_length_at-row-requires
+row_length_at-row-requires c = record { state = next-state c.args.work.now (c.requires.writing.table) c.loop-p-test.true c.wide-last.ensures }
+
+pub loop-p-preserved : goal.loop-p-preserved
+loop-p-preserved c = index-next (c.requires.writing.room) c.loop-p.invariant (next_row c.args.work.now (c.requires.writing.table) c.loop-p-test.true c.wide-last.ensures refl) c.put_dword.ensures c.row_length_at-row.ensures.measured
+
+pub loop-p-smaller : goal.loop-p-smaller
+loop-p-smaller c = omega (arith, c.loop-p-test.true, c.wide-last.ensures)
+
+pub returns : goal.returns
+returns c = record { written = index-written (c.requires.writing.room) c.loop-p.invariant (rows-done c.args.work.now (c.requires.writing.table) c.loop-p-test.false c.wide-last.ensures) }

@@ -1,0 +1,12 @@
+-- `numbering::write::write_index` meets its contract. The entries of the first p rows stand at the front of what was lent, up to `at`,
+-- and `row` is how many bytes these rows have. So the next entry is `row`; when these are all states, the index is written.
+-- Assumes nothing.
+use Prim.Native.Nat.{◌-◌}
+use Rattle.lists.proofs.numbering.Parts.{WritingIndex}
+use Rattle.numbering.proofs.write.write_index.Given as goal
+
+abbrev pub invariant-loop-p : goal.invariant-loop-p
+invariant-loop-p l = WritingIndex (kept_rows_at l.count l.work) l.p l.row l.at l.fn.out l.out
+
+abbrev pub decreases-loop-p : goal.decreases-loop-p
+decreases-loop-p l = l.states - l.p

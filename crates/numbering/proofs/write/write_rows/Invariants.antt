@@ -1,0 +1,12 @@
+-- `numbering::write::write_rows` meets its contract. The rows of the first p states stand at the front of what was lent, one directly
+-- behind the other, up to `at`. When these are all states, all rows are written.
+-- Assumes nothing.
+use Prim.Native.Nat.{◌-◌}
+use Rattle.lists.proofs.numbering.Parts.{WritingRows}
+use Rattle.numbering.proofs.write.write_rows.Given as goal
+
+abbrev pub invariant-loop-p : goal.invariant-loop-p
+invariant-loop-p l = WritingRows (kept_rows_at l.count l.work) l.p l.at l.fn.out l.out
+
+abbrev pub decreases-loop-p : goal.decreases-loop-p
+decreases-loop-p l = l.states - l.p
