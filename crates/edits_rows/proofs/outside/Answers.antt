@@ -18,9 +18,6 @@ loop-i-init c = list-begin (codes-number _ _ _)
 pub code_at-code-requires : goal.code_at-code-requires
 code_at-code-requires c = (c.requires, omega arith)
 
-pub after-moved-requires : goal.after-moved-requires
-after-moved-requires c = tt
-
 pub returns-then-not-moved : goal.returns-then-not-moved
 unfolding blame_from blamed
 returns-then-not-moved c =
@@ -32,9 +29,6 @@ pub loop-i-preserved : goal.loop-i-preserved
 loop-i-preserved c =
     let passes = sym (kept _ _ _ c.after-moved.ensures) ∙ not-false _ c.if-not-moved.false in
     list-more c.loop-i.invariant 0 (omega arith) c.code_at-code.ensures passes
-
-pub nothing-requires : goal.nothing-requires
-nothing-requires c = tt
 
 pub returns : goal.returns
 returns c =
