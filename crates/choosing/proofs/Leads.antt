@@ -79,9 +79,12 @@ module _ (c : Choosing) where
   way-wider m (one h) = one h
   way-wider m (more h l w) = more h (omega arith) (way-wider m w)
 
+  way-joined_at : (m : ℕ) {r s k : ℕ} → Way m r k → k ≡ m → Way m m s → Way (suc m) r s
+  way-joined_at m {r = r} (one h) e v = more (subst (λ (x : ℕ). Hides c r x) e h) (omega arith) (way-wider m v)
+  way-joined_at m (more h l w) e v = more h (omega arith) (way-joined_at m w e v)
+
   way-joined : (m : ℕ) {r s : ℕ} → Way m r m → Way m m s → Way (suc m) r s
-  way-joined m (one h) v = more h (omega arith) (way-wider m v)
-  way-joined m (more h l w) v = more h (omega arith) (way-joined m w v)
+  way-joined m w v = way-joined_at m w refl v
 
   way-split : (m : ℕ) {r s : ℕ} → Way (suc m) r s → Way m r s ⊎ (Way m r m × Way m m s)
   way-split m (one h) = inl (one h)

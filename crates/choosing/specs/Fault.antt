@@ -1,7 +1,7 @@
 -- Where a choosing sheet is at fault: a row for refusals 17 and 18, which carry none. Request 1/13.
 -- Assumes nothing.
 use Rattle.std.specs.Prelude.{cond, List, ℕ, zero, suc, ◌+◌, ◌-◌, ◌*◌, get_or, eqb}
-use Rattle.std.proofs.Math.Option.{Option, none, some, Option·elim}
+use Rattle.std.proofs.Math.Option.{Option, none, some, Option-elim}
 use Rattle.model.specs.Lists.{place}
 use Rattle.model.specs.Bytes.{word}
 use Rattle.model.specs.Contract.{has}
@@ -16,7 +16,7 @@ module _ (b : List ℕ) (t : Trailer) where
   unfoldable pub fault_from : (left q i : ℕ) → Option ℕ
   fault_from zero q i = cond (eqb i t.index) none (some (q - 1))
   fault_from (suc left) q i =
-      let rest = Option·elim (choosing_row_at b t i) (some q) (λ (p : Part ChoosingRow). fault_from left (suc q) p.behind) in
+      let rest = Option-elim (choosing_row_at b t i) (some q) (λ (p : Part ChoosingRow). fault_from left (suc q) p.behind) in
       cond (eqb (word b (t.index + 2 * q)) i) rest (some q)
 
 -- 17: the first row at fault; none if trailer or length are wrong, or if nothing is

@@ -4,6 +4,7 @@ use mathlib.Core.Path.{sym, ap, ◌∙◌}
 use mathlib.Core.Option.{Option, none}
 use Prim.Native.Nat.{ℕ, ◌-◌}
 use native.Mathlib.Omega.{arith}
+use borrow.Author.Tests.{not-true, not-false}
 use Rattle.edits.specs.Sound.{blamed}
 use Rattle.edits_rows.specs.Rows.{blame_from}
 use Rattle.edits_rows.proofs.FirstNot.{list-begin, list-none, list-here, list-more}
@@ -17,23 +18,17 @@ loop-i-init c = list-begin (codes-number _ _ _)
 pub code_at-code-requires : goal.code_at-code-requires
 code_at-code-requires c = (c.requires, omega arith)
 
-pub after-moved-requires : goal.after-moved-requires
-after-moved-requires c = tt
-
 pub returns-then-not-moved : goal.returns-then-not-moved
 unfolding blame_from blamed
 returns-then-not-moved c =
-    let fails = sym (kept _ _ _ c.after-moved.ensures) ∙ c.if-not-moved.true in
+    let fails = sym (kept _ _ _ c.after-moved.ensures) ∙ not-true _ c.if-not-moved.true in
     sym (ap (λ (o : Option ℕ). blame_from (blamed o none none none))
     (list-here c.loop-i.invariant 0 (omega arith) c.code_at-code.ensures fails))
 
 pub loop-i-preserved : goal.loop-i-preserved
 loop-i-preserved c =
-    let passes = sym (kept _ _ _ c.after-moved.ensures) ∙ c.if-not-moved.false in
+    let passes = sym (kept _ _ _ c.after-moved.ensures) ∙ not-false _ c.if-not-moved.false in
     list-more c.loop-i.invariant 0 (omega arith) c.code_at-code.ensures passes
-
-pub nothing-requires : goal.nothing-requires
-nothing-requires c = tt
 
 pub returns : goal.returns
 returns c =

@@ -29,9 +29,6 @@ loop-i-preserved c =
     let passes = sym c.answers.ensures ∙ c.if-not-answers.false in
     list-more c.loop-i.invariant 0 (omega arith) c.ready_set-S.ensures passes
 
-pub nothing-requires : goal.nothing-requires
-nothing-requires c = tt
-
 pub returns : goal.returns
 returns c =
     c.nothing.ensures

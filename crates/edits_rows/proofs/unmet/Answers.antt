@@ -16,9 +16,6 @@ loop-i-init c = list-begin (codes-number _ _ _)
 pub code_at-code-requires : goal.code_at-code-requires
 code_at-code-requires c = (c.requires, omega arith)
 
-pub met-requires : goal.met-requires
-met-requires c = tt
-
 pub returns-then-not-met : goal.returns-then-not-met
 unfolding blame_from blamed
 returns-then-not-met c =
@@ -30,9 +27,6 @@ pub loop-i-preserved : goal.loop-i-preserved
 loop-i-preserved c =
     let passes = sym c.met.ensures ∙ c.if-not-met.false in
     list-more c.loop-i.invariant 0 (omega arith) c.code_at-code.ensures passes
-
-pub nothing-requires : goal.nothing-requires
-nothing-requires c = tt
 
 pub returns : goal.returns
 returns c =

@@ -30,9 +30,6 @@ loop-place-preserved c =
     let passes = sym c.hope.ensures ∙ c.if-not-hope.false in
     list-more c.loop-place.invariant 0 (omega arith) c.ready_set-set.ensures passes
 
-pub nothing-requires : goal.nothing-requires
-nothing-requires c = tt
-
 pub returns : goal.returns
 returns c =
     c.nothing.ensures
