@@ -5,6 +5,7 @@ use mathlib.Core.Path.{refl}
 use native.Mathlib.Omega.{arith}
 use Rattle.lists.proofs.numbering.Parts.{index-begun, index-written, entry-room, index-next}
 use Rattle.numbering.proofs.records.States.{rows-done, next-state, next_row}
+use Rattle.numbering.specs.Table.{kept_rows_at}
 use Rattle.numbering.proofs.write.write_index.Goals as goal
 
 pub loop-p-init : goal.loop-p-init

@@ -3,6 +3,7 @@
 -- Assumes nothing.
 use Prim.Native.Nat.{◌-◌}
 use Rattle.lists.proofs.numbering.Parts.{WritingIndex}
+use Rattle.numbering.specs.Table.{kept_rows_at}
 use Rattle.numbering.proofs.write.write_index.Given as goal
 
 abbrev pub invariant-loop-p : goal.invariant-loop-p

@@ -4,6 +4,7 @@
 use native.Mathlib.Omega.{arith}
 use Rattle.lists.proofs.numbering.Parts.{rows-begun, rows_next, rows_written}
 use Rattle.numbering.proofs.records.States.{bytes-few, rows-done, next-state, next_row, row-to-write}
+use Rattle.numbering.specs.Table.{kept_rows_at}
 use Rattle.numbering.proofs.write.write_rows.Goals as goal
 
 pub loop-p-init : goal.loop-p-init
