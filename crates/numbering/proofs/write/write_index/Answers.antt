@@ -3,8 +3,8 @@
 -- Assumes nothing.
 use mathlib.Core.Path.{refl}
 use native.Mathlib.Omega.{arith}
-use Rattle.lists.proofs.numbering.Parts.{index-begun, index-written, entry-room, index-next}
-use Rattle.numbering.proofs.records.States.{rows-done, next-state, next_row}
+use Rattle.lists.proofs.numbering.Parts.{index-begun, index-written, entry-room, index-next, index-within, index-place}
+use Rattle.numbering.proofs.records.States.{rows-done, next-state, next_row, more-few, plan-few}
 use Rattle.numbering.specs.Table.{kept_rows_at}
 use Rattle.numbering.proofs.write.write_index.Goals as goal
 
@@ -25,3 +25,15 @@ loop-p-smaller c = omega (arith, c.loop-p-test.true, c.wide-last.ensures)
 
 pub returns : goal.returns
 returns c = record { written = index-written (c.requires.writing.room) c.loop-p.invariant (rows-done c.args.work.now (c.requires.writing.table) c.loop-p-test.false c.wide-last.ensures) }
+
+pub slice_bounds-put_dword-count : goal.slice_bounds-put_dword-count
+slice_bounds-put_dword-count c = omega (arith, index-within c.requires.writing.room c.loop-p.invariant, c.loop-p.auto.out)
+
+pub slice_bounds-put_dword-start : goal.slice_bounds-put_dword-start
+slice_bounds-put_dword-start c = omega (arith, index-within c.requires.writing.room c.loop-p.invariant, c.loop-p.auto.out)
+
+pub overflow_add-row : goal.overflow_add-row
+overflow_add-row c = omega (arith, more-few c.args.work.now c.requires.writing.table c.loop-p-test.true c.wide-last.ensures refl c.loop-p.invariant.measured c.row_length_at-row.ensures.measured)
+
+pub overflow_add-at : goal.overflow_add-at
+overflow_add-at c = omega (arith, index-place c.requires.writing.room c.loop-p.invariant, c.loop-p-test.true, c.wide-last.ensures, plan-few c.args.work.now c.requires.writing.table)

@@ -2,7 +2,7 @@
 -- slots before stand behind the row's count, up to `at`. With no slot left, the row is written.
 -- Assumes nothing.
 use native.Mathlib.Omega.{arith}
-use Rattle.numbering.proofs.records.Row.{row-there, count_room, count_small, row-starts, row_ends}
+use Rattle.numbering.proofs.records.Row.{row-there, count_room, count_small, row-starts, row_ends, row_within, move-small}
 use Rattle.numbering.proofs.records.Row.{slot_small, row-nearer, link-named, target-there, move_needs, row_on}
 use Rattle.numbering.proofs.write.write_row.Goals as goal
 
@@ -44,3 +44,12 @@ loop-rest-smaller c = row-nearer c.args.work.now c.requires.writing c.loop-rest.
 
 pub returns : goal.returns
 returns c = record { written = row_ends c.args.work.now c.requires.writing c.loop-rest.invariant c.loop-rest-test.false }
+
+pub slice_bounds-write_move-count : goal.slice_bounds-write_move-count
+slice_bounds-write_move-count c = omega (arith, row_within c.args.work.now c.requires.writing c.loop-rest.invariant, c.loop-rest.auto.out)
+
+pub slice_bounds-write_move-start : goal.slice_bounds-write_move-start
+slice_bounds-write_move-start c = omega (arith, row_within c.args.work.now c.requires.writing c.loop-rest.invariant, c.loop-rest.auto.out)
+
+pub overflow_add-at : goal.overflow_add-at
+overflow_add-at c = omega (arith, move-small c.args.work.now c.requires.writing c.loop-rest.invariant c.loop-rest-test.true)

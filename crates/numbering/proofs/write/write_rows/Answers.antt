@@ -2,8 +2,8 @@
 -- behind the other, up to `at`. When these are all states, all rows are written.
 -- Assumes nothing.
 use native.Mathlib.Omega.{arith}
-use Rattle.lists.proofs.numbering.Parts.{rows-begun, rows_next, rows_written}
-use Rattle.numbering.proofs.records.States.{bytes-few, rows-done, next-state, next_row, row-to-write}
+use Rattle.lists.proofs.numbering.Parts.{rows-begun, rows_next, rows_written, rows-within}
+use Rattle.numbering.proofs.records.States.{bytes-few, rows-done, next-state, next_row, row-to-write, more-few}
 use Rattle.numbering.specs.Table.{kept_rows_at}
 use Rattle.numbering.proofs.write.write_rows.Goals as goal
 
@@ -27,3 +27,12 @@ offset_of-requires c = bytes-few c.args.work.now (c.requires.writing.table) (c.l
 
 pub returns : goal.returns
 returns c = record { written = rows_written (c.requires.writing.room) c.loop-p.invariant (rows-done c.args.work.now (c.requires.writing.table) c.loop-p-test.false c.wide-last.ensures) c.offset_of.ensures }
+
+pub slice_bounds-write_row-count : goal.slice_bounds-write_row-count
+slice_bounds-write_row-count c = omega (arith, rows-within c.requires.writing.room c.loop-p.invariant, c.loop-p.auto.out)
+
+pub slice_bounds-write_row-start : goal.slice_bounds-write_row-start
+slice_bounds-write_row-start c = omega (arith, rows-within c.requires.writing.room c.loop-p.invariant, c.loop-p.auto.out)
+
+pub overflow_add-at : goal.overflow_add-at
+overflow_add-at c = omega (arith, more-few c.args.work.now c.requires.writing.table c.loop-p-test.true c.wide-last.ensures c.state_at-i.ensures.situation c.loop-p.invariant.measured c.write_row-at.ensures.written.size_is)
