@@ -267,6 +267,7 @@ free-became u v e f = subst (λ (o : Option Term). Free u (get_or o (name v))) e
 -- a variable that is free afterwards is free in what some free variable became
 pub free-sub : (t : Term) (σ : Values) (u : ℕ) → Free u (sub σ t) → (v : ℕ) × Free v t × Free u (value_of σ v)
 unfolding sub
+free-sub end σ u f = elim f [ ]
 free-sub (before j t) σ u (f_before k s f) = let r = free-sub t σ u f in (r.0, f_before j t r.1, r.2)
 free-sub (plus t s) σ u (f_plus_left p q f) = let r = free-sub t σ u f in (r.0, f_plus_left t s r.1, r.2)
 free-sub (plus t s) σ u (f_plus_right p q f) = let r = free-sub s σ u f in (r.0, f_plus_right t s r.1, r.2)

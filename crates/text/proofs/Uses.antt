@@ -11,7 +11,7 @@ use lib.ListN.{length, get_or, length-append, get_or-append}
 use lib.Seq.{get_or-append-add}
 use lib.Dec.{eqb}
 use Rattle.model.specs.Lists.{any}
-use Rattle.text.specs.Grammar.{Tree, nought, bare, dotted, summed, chosen, bound, variable, bracket, Level, tight, sums, whole, Derives, d_variable, d_bare, d_dotted, d_bound, d_bracket, d_one, d_summed, d_only, d_chosen}
+use Rattle.text.specs.Grammar.{Tree, nought, bare, dotted, summed, chosen, bound, variable, bracket, Level, tight, sums, whole, Derives, d_nought, d_variable, d_bare, d_dotted, d_bound, d_bracket, d_one, d_summed, d_only, d_chosen}
 use Rattle.text.specs.Convert.{action_width, width_of, wrong_at}
 use Rattle.text.specs.Uses.{
   Over,
@@ -239,6 +239,8 @@ letter-second x z y i j v k e h = letter-back x (z ++ y) i (i + length x) v k re
 letter-within : {l : Level} {t : Tree} {x : List ℕ} → Derives l t x → {over those : List Over} {i v k : ℕ} → Uses over i t v those k
     → Letter x i v k
 unfolding width_of
+letter-within d_nought {over = over} {those = those} {i = i} {v = v} {k = k} u = elim u [ ]
+letter-within (d_bare j _ _) {over = over} {those = those} {i = i} {v = v} {k = k} u = elim u [ ]
 letter-within (d_variable v h) (u_variable over i w) = (0, omega arith, omega arith, refl)
 letter-within (d_dotted j t x y s d) {v = v} {k = k} (u_dotted over i w c u) =
     letter-second x (46 ∷ []) y i (i + suc (action_width j)) v k (omega (arith, width tight (bare j) x (d_bare j x s)))

@@ -204,6 +204,9 @@ none-chosen t u r p i e = neither (wrong_at r p i t) (wrong_at r p (i + (3 + wid
 pub naked-among : (t : Tree) (recs prefixed : List ℕ) (i : ℕ) → wrong_at recs prefixed i t ≡ none → (v : ℕ) → Naked v (term_of t)
     → Among v prefixed
 unfolding wrong_at term_of
+naked-among nought r p i e v n = elim n [ ]
+naked-among (bare _) r p i e v n = elim n [ ]
+naked-among (dotted _ _) r p i e v n = elim n [ ]
 naked-among (summed t u) r p i e v (n_plus_left a b n) = naked-among t r p i (none-summed t u r p i e).0 v n
 naked-among (summed t u) r p i e v (n_plus_right a b n) =
     naked-among u r p (i + suc (width_of t)) (none-summed t u r p i e).1 v n

@@ -1,7 +1,7 @@
 -- The ordinary sheet that a text is converted to, or why there is none, and where. Request 7/13.
 -- Assumes nothing.
 use Rattle.std.specs.Prelude.{Bool, not, cond, List, [], ◌∷◌, ℕ, zero, suc, ◌+◌, ◌-◌, length, eqb, ltb, leb}
-use Rattle.std.proofs.Math.Option.{Option, none, some, Option·elim}
+use Rattle.std.proofs.Math.Option.{Option, none, some, Option-elim}
 use Rattle.model.specs.Lists.{any, keep}
 use Rattle.model.specs.Sheet.{Reading, good, refusal, check, then, Refusal, plain}
 use Rattle.nodes.specs.SheetBytes.{sheet_bytes}
@@ -72,7 +72,7 @@ most_deep = 16
 
 -- a tree, unless a variable is at fault
 unfoldable pub bound_tree : List ℕ → Tree → Reading TextFault Tree
-bound_tree s t = Option·elim (wrong_at [] [] 0 t) (good t) (λ (i : ℕ). refusal (record { refused = plain 23 0; byte = place_of_byte s i }))
+bound_tree s t = Option-elim (wrong_at [] [] 0 t) (good t) (λ (i : ℕ). refusal (record { refused = plain 23 0; byte = place_of_byte s i }))
 
 -- what was read, or where reading stopped
 unfoldable pub tree_read : List ℕ → Parse → Reading TextFault Tree

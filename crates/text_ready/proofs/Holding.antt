@@ -1,7 +1,7 @@
 -- The families of the bodies of the first recs, held one after the other: a body leads only to recs before its own, whose families stand
 -- there already.
 -- Assumes nothing.
-use mathlib.Core.Path.{◌≡◌, ap, subst, subst⁻¹, ◌∙◌}
+use mathlib.Core.Path.{◌≡◌, ap, subst⁻¹, ◌∙◌}
 use mathlib.Core.Logic.{⊎_elim}
 use mathlib.Core.List.{List}
 use Prim.Native.Nat.{ℕ, ◌+◌, ◌-◌, ◌*◌, ◌<◌, ◌≤◌}

@@ -11,4 +11,4 @@ returns-else-j-lt6 c =
     let a = c.args in
     let e : 6 + (a.j - 6) ≡ a.j = omega arith in
     let done = c.gain_high.ensures in
-    (done.0, subst (λ (j : ℕ). Forced j a.family.now c.gain_high.new.0) e done.1)
+    (done.0, subst (λ (j : ℕ). Forced j a.family.now c.gain_high.new.family) e done.1)

@@ -36,7 +36,7 @@ returns-then-n-gt-MOST c =
 pub shape_of-out-then-n-gt-MOST : goal.shape_of-out-then-n-gt-MOST
 shape_of-out-then-n-gt-MOST c =
     let start = c.args in
-    most-length 8 (masks_of start.family.now) start.out.now (returns c) (omega arith)
+    most-length 8 (masks_of start.family.now) start.out.now (returns-then-n-gt-MOST c) (omega arith)
 
 pub loop-w-preserved : goal.loop-w-preserved
 loop-w-preserved c =

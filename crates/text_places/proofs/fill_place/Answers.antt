@@ -2,7 +2,8 @@
 -- Assumes nothing.
 use mathlib.Core.Path.{sym, ◌∙◌}
 use native.Mathlib.Omega.{arith}
-use lib.ListN.{length-take, length-drop}
+use lib.ListN.{length-take, length-drop, length-set}
+use borrow.Rule.Slice.PartMut.{same_len_mid}
 use Rattle.place_sets.proofs.Listed.{part-is}
 use Rattle.text_places.proofs.Filling.{filled}
 use Rattle.text_places.proofs.fill_place.Goals as goal
@@ -38,7 +39,7 @@ returns c =
     filled _ _ c.args.p _ _ _ _ _ _ (omega arith) rooms (λ senses x. put senses x (c.requires.4 senses x))
     c.put_prefixes.ensures
     (record {
-      sizes_room = same_length c ∙ rooms.sizes_room;
-      masks_room = same-length-2 c ∙ rooms.masks_room;
-      prefixes_room = same-length-3 c ∙ rooms.prefixes_room;
+      sizes_room = simp length-set rooms.sizes_room;
+      masks_room = same_len_mid _ _ c.args.masks.now _ c.put_ready.auto.out ∙ rooms.masks_room;
+      prefixes_room = same_len_mid _ _ c.args.prefixes.now _ c.put_prefixes.auto.set ∙ rooms.prefixes_room;
     })

@@ -1,6 +1,5 @@
 -- `text_reading::place_of_byte` meets its contract. The invariant: the byte stands `at` places and as many more as the rest says.
 -- Assumes nothing.
-use Prim.Native.Nat.{◌-◌}
 use Rattle.text_reading.proofs.Stripping.{seeking-begins, seeking-blank, seeking-found, seeking-on, seeking-ends}
 use Rattle.text_reading.proofs.place_of_byte.Goals as goal
 

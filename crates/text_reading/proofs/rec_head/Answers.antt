@@ -1,6 +1,5 @@
 -- `text_reading::rec_head` meets its contract: the bytes are asked one after the other, and each that does not come ends it.
 -- Assumes nothing.
-use borrow.Author.Tests.{not-true, not-false}
 use mathlib.Core.Path.{sym, ◌∙◌}
 use Rattle.text_reading.proofs.Head.{head-none, head-one, head-two, head_three, head-whole}
 use Rattle.text_reading.proofs.rec_head.Goals as goal
@@ -18,18 +17,18 @@ pub returns-then-not-within : goal.returns-then-not-within
 returns-then-not-within c =
     head-two c.args.text.now c.args.at c.byte_at.ensures c.if-byte_at-ne101.false c.byte_at-2.ensures
     c.if-byte_at-ne99.false c.byte_at-3.ensures
-    (sym c.within.ensures ∙ not-true c.within.result c.if-not-within.true)
+    (sym c.within.ensures ∙ c.if-not-within.true)
 
 pub returns-then-byte_at-ne46 : goal.returns-then-byte_at-ne46
 returns-then-byte_at-ne46 c =
     head_three c.args.text.now c.args.at c.byte_at.ensures c.if-byte_at-ne101.false c.byte_at-2.ensures
     c.if-byte_at-ne99.false c.byte_at-3.ensures
-    (sym c.within.ensures ∙ not-false c.within.result c.if-not-within.false)
+    (sym c.within.ensures ∙ c.if-not-within.false)
     c.byte_at-4.ensures c.if-byte_at-ne46.true
 
 pub returns : goal.returns
 returns c =
     head-whole c.args.text.now c.args.at c.byte_at.ensures c.if-byte_at-ne101.false c.byte_at-2.ensures
     c.if-byte_at-ne99.false c.byte_at-3.ensures
-    (sym c.within.ensures ∙ not-false c.within.result c.if-not-within.false)
+    (sym c.within.ensures ∙ c.if-not-within.false)
     c.byte_at-4.ensures c.if-byte_at-ne46.false

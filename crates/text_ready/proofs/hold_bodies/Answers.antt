@@ -1,7 +1,7 @@
 -- `text_ready::hold_bodies` meets its contract. The loop's invariant: the families of the bodies of the recs below r stand there.
 -- Assumes nothing.
 use mathlib.Core.Path.{refl, ◌∙◌}
-use Prim.Native.Nat.{◌-◌, ◌<◌}
+use Prim.Native.Nat.{◌<◌}
 use native.Mathlib.Omega.{arith}
 use lib.ListN.{length}
 use Rattle.text_ready.proofs.Holding.{held_all}

@@ -4,6 +4,7 @@
 use mathlib.Core.Path.{◌≡◌, ap}
 use Prim.Native.Nat.{ℕ, ◌*◌, ◌-◌}
 use native.Mathlib.Omega.{arith}
+use borrow.Author.Rules.{rules}
 use lib.ListN.{take}
 use Rattle.text_ready.proofs.Holding.{held_more}
 use Rattle.text_ready.proofs.hold_body.Goals as goal
@@ -18,7 +19,7 @@ returns c =
     let e : 256 * a.r - 0 ≡ 256 * a.r = omega arith in
     let is = ap (λ (n : ℕ). take n held) e in
     record {
-      room = same_length c;
+      room = search rules;
       more = λ senses x below.
           held_more a.cells.now a.bodies.now senses a.r held _ c.requires.2 c.requires.4 only.1 joined is copied x below;
     }
