@@ -12,7 +12,8 @@ returns-in-Refused c = record { admits = admits-sheets _ _ _ _ c.check_pair.ensu
 
 pub returns-in-Good : goal.returns-in-Good
 returns-in-Good c =
-    record { admits =
-    admits-plan _ _ _ _ c.check_pair.ensures _ c.in-Good.is _ c.number_before.ensures
-    c.refusal-in-Good.ensures
+    record {
+      admits =
+          admits-plan _ _ _ _ c.check_pair.ensures _ c.in-Good.is _ c.number_before.ensures
+          c.refusal-in-Good.ensures;
     }

@@ -5,9 +5,10 @@ use Rattle.connect.proofs.checked.Goals as goal
 
 pub returns-then-k-gt3 : goal.returns-then-k-gt3
 returns-then-k-gt3 c =
-    record { admits =
-    rank-checked _ _ _ _ c.check_pair.ensures _ c.in-Good.is c.if-k-gt3.true
-    c.refusal-then-k-gt3.ensures
+    record {
+      admits =
+          rank-checked _ _ _ _ c.check_pair.ensures _ c.in-Good.is c.if-k-gt3.true
+          c.refusal-then-k-gt3.ensures;
     }
 
 pub returns-in-Refused : goal.returns-in-Refused
@@ -15,7 +16,8 @@ returns-in-Refused c = record { admits = pair-checked _ _ _ _ c.check_pair.ensur
 
 pub returns-else-k-gt3 : goal.returns-else-k-gt3
 returns-else-k-gt3 c =
-    record { admits =
-    good-checked _ _ _ _ c.check_pair.ensures _ c.in-Good.is c.if-k-gt3.false
-    c.refusal-in-Good.ensures
+    record {
+      admits =
+          good-checked _ _ _ _ c.check_pair.ensures _ c.in-Good.is c.if-k-gt3.false
+          c.refusal-in-Good.ensures;
     }

@@ -13,9 +13,10 @@ read_rows-requires c = blank-rows
 
 pub returns-then-not-read_rows : goal.returns-then-not-read_rows
 returns-then-not-read_rows c =
-    record { outcome =
-    converted-other _ _ (c.read_rows.ensures.no_sheet c.if-not-read_rows.true)
-    c.refused.ensures
+    record {
+      outcome =
+          converted-other _ _ (c.read_rows.ensures.no_sheet c.if-not-read_rows.true)
+          c.refused.ensures;
     }
 
 pub read_trailer-trailer-requires : goal.read_trailer-trailer-requires
@@ -42,15 +43,16 @@ has_circle-requires c =
 
 pub returns-then-has_circle : goal.returns-then-has_circle
 returns-then-has_circle c =
-    record { outcome =
-    let read = c.read_rows.ensures.sheet c.if-not-read_rows.false in
-    let small = bytes_small c.args.choosing.now (λ i. omega (arith, c.type_inv.choosing i)) in
-    let facts = choosing-read _ small read.0 read.1 in
-    let trailer = c.read_trailer-trailer.ensures in
-    let counted = ap (λ (t : Trailer). t.count) trailer ∙ sym facts.rows.each.size in
-    let formed = read-formed _ small read.0 read.1 in
-    converted-circle _ _ read.1 formed read.2 _ _ counted c.lead.ensures.1
-    c.has_circle.ensures c.if-has_circle.true c.refused-then-has_circle.ensures
+    record {
+      outcome =
+          let read = c.read_rows.ensures.sheet c.if-not-read_rows.false in
+          let small = bytes_small c.args.choosing.now (λ i. omega (arith, c.type_inv.choosing i)) in
+          let facts = choosing-read _ small read.0 read.1 in
+          let trailer = c.read_trailer-trailer.ensures in
+          let counted = ap (λ (t : Trailer). t.count) trailer ∙ sym facts.rows.each.size in
+          let formed = read-formed _ small read.0 read.1 in
+          converted-circle _ _ read.1 formed read.2 _ _ counted c.lead.ensures.1
+          c.has_circle.ensures c.if-has_circle.true c.refused-then-has_circle.ensures;
     }
 
 pub rank-known-requires : goal.rank-known-requires
@@ -80,32 +82,34 @@ slice_bounds-convert_rows-end-3 c = sym (ranked-long c.rank-known.ensures).1
 
 pub convert_rows-requires : goal.convert_rows-requires
 convert_rows-requires c =
-    record { tables =
-    let read = c.read_rows.ensures.sheet c.if-not-read_rows.false in
-    let small = bytes_small c.args.choosing.now (λ i. omega (arith, c.type_inv.choosing i)) in
-    let facts = choosing-read _ small read.0 read.1 in
-    let trailer = c.read_trailer-trailer.ensures in
-    let few = ap (λ (t : Trailer). t.count) trailer in
-    let long = ranked-long c.rank-known.ensures in
     record {
-      leads_room = c.lead.ensures.0;
-      few_masks = omega (arith, long.0, c.rank-known.ensures.few);
-      holders_room = long.1 ∙ sym long.0;
-      targets_room = read.2.targets_room;
-      few_rows = omega (arith, few, facts.trails.few_rows);
-    }
+      tables =
+          let read = c.read_rows.ensures.sheet c.if-not-read_rows.false in
+          let small = bytes_small c.args.choosing.now (λ i. omega (arith, c.type_inv.choosing i)) in
+          let facts = choosing-read _ small read.0 read.1 in
+          let trailer = c.read_trailer-trailer.ensures in
+          let few = ap (λ (t : Trailer). t.count) trailer in
+          let long = ranked-long c.rank-known.ensures in
+          record {
+            leads_room = c.lead.ensures.0;
+            few_masks = omega (arith, long.0, c.rank-known.ensures.few);
+            holders_room = long.1 ∙ sym long.0;
+            targets_room = read.2.targets_room;
+            few_rows = omega (arith, few, facts.trails.few_rows);
+          };
     }
 
 pub returns : goal.returns
 returns c =
-    record { outcome =
-    let read = c.read_rows.ensures.sheet c.if-not-read_rows.false in
-    let small = bytes_small c.args.choosing.now (λ i. omega (arith, c.type_inv.choosing i)) in
-    let facts = choosing-read _ small read.0 read.1 in
-    let trailer = c.read_trailer-trailer.ensures in
-    let counted = ap (λ (t : Trailer). t.count) trailer ∙ sym facts.rows.each.size in
-    let formed = read-formed _ small read.0 read.1 in
-    let names = ap (λ (t : Trailer). t.n) trailer ∙ facts.names in
-    converted-rows _ _ read.1 formed read.2 _ _ counted c.lead.ensures.1
-    c.has_circle.ensures c.if-has_circle.false c.rank-known.ensures _ names c.convert_rows.ensures.outcome
+    record {
+      outcome =
+          let read = c.read_rows.ensures.sheet c.if-not-read_rows.false in
+          let small = bytes_small c.args.choosing.now (λ i. omega (arith, c.type_inv.choosing i)) in
+          let facts = choosing-read _ small read.0 read.1 in
+          let trailer = c.read_trailer-trailer.ensures in
+          let counted = ap (λ (t : Trailer). t.count) trailer ∙ sym facts.rows.each.size in
+          let formed = read-formed _ small read.0 read.1 in
+          let names = ap (λ (t : Trailer). t.n) trailer ∙ facts.names in
+          converted-rows _ _ read.1 formed read.2 _ _ counted c.lead.ensures.1
+          c.has_circle.ensures c.if-has_circle.false c.rank-known.ensures _ names c.convert_rows.ensures.outcome;
     }

@@ -10,8 +10,9 @@ find-known-requires c = (c.requires.tables, blank-tables)
 pub returns : goal.returns
 unfolding convert_from
 returns c =
-    record { outcome =
-    let found = c.find-known.ensures in
-    c.write_found.ensures (next_from c.args.leads.now c.args.targets.now c.args.count)
-    (ready_from c.args.leads.now c.args.ranked.now c.args.holders.now c.args.count) 1 _ found.filled
+    record {
+      outcome =
+          let found = c.find-known.ensures in
+          c.write_found.ensures (next_from c.args.leads.now c.args.targets.now c.args.count)
+          (ready_from c.args.leads.now c.args.ranked.now c.args.holders.now c.args.count) 1 _ found.filled;
     }

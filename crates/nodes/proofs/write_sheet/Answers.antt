@@ -15,12 +15,13 @@ overflow_add-trailer-2 c = omega (arith, c.rows_length-rows.ensures.0, c.require
 
 pub returns-then-out-trailer : goal.returns-then-out-trailer
 returns-then-out-trailer c =
-    record { answered =
-    let a = c.args in
-    let t : Tables = record { sizes = a.sizes.now; ready = a.ready.now; next = a.next.now } in
-    let size = c.rows_length-rows.ensures.1 a.next.now in
-    written-short (sheet_bytes a.n 0 (states_in t a.count)) a.out.now
-    (omega (arith, sheet-length t a.count a.n, size, c.if-out-trailer.true))
+    record {
+      answered =
+          let a = c.args in
+          let t : Tables = record { sizes = a.sizes.now; ready = a.ready.now; next = a.next.now } in
+          let size = c.rows_length-rows.ensures.1 a.next.now in
+          written-short (sheet_bytes a.n 0 (states_in t a.count)) a.out.now
+          (omega (arith, sheet-length t a.count a.n, size, c.if-out-trailer.true));
     }
 
 pub put_rows-requires : goal.put_rows-requires
@@ -38,12 +39,13 @@ overflow_cast-result c =
 
 pub returns : goal.returns
 returns c =
-    record { answered =
-    let a = c.args in
-    let t : Tables = record { sizes = a.sizes.now; ready = a.ready.now; next = a.next.now } in
-    let size = c.rows_length-rows.ensures.1 a.next.now in
-    let length = sheet-length t a.count a.n in
-    written-whole (sheet_bytes a.n 0 (states_in t a.count)) a.out.now (omega (arith, length, size)) (omega (arith, length, size))
-    (sheet-written t a.count a.n size a.out.now (omega (arith, size)) c.put_rows.ensures
-    (c.put_index.ensures a.next.now) c.put_trailer.ensures)
+    record {
+      answered =
+          let a = c.args in
+          let t : Tables = record { sizes = a.sizes.now; ready = a.ready.now; next = a.next.now } in
+          let size = c.rows_length-rows.ensures.1 a.next.now in
+          let length = sheet-length t a.count a.n in
+          written-whole (sheet_bytes a.n 0 (states_in t a.count)) a.out.now (omega (arith, length, size)) (omega (arith, length, size))
+          (sheet-written t a.count a.n size a.out.now (omega (arith, size)) c.put_rows.ensures
+          (c.put_index.ensures a.next.now) c.put_trailer.ensures);
     }

@@ -15,9 +15,10 @@ overflow_sub-b c =
 
 pub word_at-index-requires : goal.word_at-index-requires
 word_at-index-requires c =
-    record { within =
-    let s = sheet-stands _ c.requires.sheet in
-    omega arith
+    record {
+      within =
+          let s = sheet-stands _ c.requires.sheet in
+          omega arith;
     }
 
 pub word_at-requires : goal.word_at-requires

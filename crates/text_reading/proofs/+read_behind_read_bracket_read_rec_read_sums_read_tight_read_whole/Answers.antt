@@ -18,12 +18,11 @@ use Rattle.text_reading.proofs.Returns as so
 use Rattle.text_reading.proofs.+read_behind_read_bracket_read_rec_read_sums_read_tight_read_whole.Goals as goal
 
 pub read_behind-put_cell-requires : goal.read_behind-put_cell-requires
-read_behind-put_cell-requires t c =
-    (
-      so.behind-room-bare c.requires.0 (tight_at 0 0) (tight_at 0 0) c.args.at c.args.action c.requires.1
-          c.requires.2 c.byte_at.ensures c.onwards-here.ensures,
-      c.requires.0.cells_room,
-    )
+read_behind-put_cell-requires t c = (
+  so.behind-room-bare c.requires.0 (tight_at 0 0) (tight_at 0 0) c.args.at c.args.action c.requires.1
+      c.requires.2 c.byte_at.ensures c.onwards-here.ensures,
+  c.requires.0.cells_room,
+)
 
 pub read_behind-returns-then-byte_at-ne46 : goal.read_behind-returns-then-byte_at-ne46
 read_behind-returns-then-byte_at-ne46 t c =

@@ -16,16 +16,18 @@ returns-then-text-gt-LONGEST c = record { outcome = long-answer c.args.text.now 
 
 pub returns-then-not-read : goal.returns-then-not-read
 returns-then-not-read c =
-    record { outcome =
-    stopped-is c.args.text.now (omega (arith, c.if-text-gt-LONGEST.false)) c.read_cells-read.ensures c.args.sheet.now
-    (not-true _ c.if-not-read.true) c.refused.ensures
+    record {
+      outcome =
+          stopped-is c.args.text.now (omega (arith, c.if-text-gt-LONGEST.false)) c.read_cells-read.ensures c.args.sheet.now
+          (not-true _ c.if-not-read.true) c.refused.ensures;
     }
 
 pub returns-then-read-ne-NONE : goal.returns-then-read-ne-NONE
 returns-then-read-ne-NONE c =
-    record { outcome =
-    wrong-is-answer c.args.text.now (omega (arith, c.if-text-gt-LONGEST.false)) c.read_cells-read.ensures c.args.sheet.now
-    (not-false _ c.if-not-read.false) c.if-read-ne-NONE.true c.refused-then-read-ne-NONE.ensures
+    record {
+      outcome =
+          wrong-is-answer c.args.text.now (omega (arith, c.if-text-gt-LONGEST.false)) c.read_cells-read.ensures c.args.sheet.now
+          (not-false _ c.if-not-read.false) c.if-read-ne-NONE.true c.refused-then-read-ne-NONE.ensures;
     }
 
 pub slice_bounds-bodies-end : goal.slice_bounds-bodies-end
@@ -93,10 +95,11 @@ convert_cells-requires c =
 
 pub returns : goal.returns
 returns c =
-    record { outcome =
-    let right =
-    right-cells c.args.text.now (omega (arith, c.if-text-gt-LONGEST.false)) c.read_cells-read.ensures (not-false _ c.if-not-read.false)
-    c.if-read-ne-NONE.false (zeros-blank 257 0) in
-    c.convert_cells.ensures (places_of (term_of right.0)) right.1.explained-by
-    ∙ right-found right.1 c.place_of-first.ensures c.args.sheet.now
+    record {
+      outcome =
+          let right =
+          right-cells c.args.text.now (omega (arith, c.if-text-gt-LONGEST.false)) c.read_cells-read.ensures (not-false _ c.if-not-read.false)
+          c.if-read-ne-NONE.false (zeros-blank 257 0) in
+          c.convert_cells.ensures (places_of (term_of right.0)) right.1.explained-by
+          ∙ right-found right.1 c.place_of-first.ensures c.args.sheet.now;
     }

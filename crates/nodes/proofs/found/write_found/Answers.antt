@@ -20,10 +20,11 @@ returns-then-not-all_few c leads sets start nodes found =
 
 pub write_sheet-requires : goal.write_sheet-requires
 write_sheet-requires c =
-    record { held =
-    let rooms = c.requires in
-    let few = c.if-known-gt-STATES.false in
-    found-held rooms.0 rooms.1 rooms.2 (omega (arith, few)) c.all_few.ensures c.if-not-all_few.false
+    record {
+      held =
+          let rooms = c.requires in
+          let few = c.if-known-gt-STATES.false in
+          found-held rooms.0 rooms.1 rooms.2 (omega (arith, few)) c.all_few.ensures c.if-not-all_few.false;
     }
 
 pub returns : goal.returns

@@ -32,12 +32,13 @@ overflow_cast-row c = omega (arith, c.loop-q.invariant.1, c.requires.0.few)
 
 pub put_word-requires : goal.put_word-requires
 put_word-requires c =
-    record { room =
-    let a = c.args in
-    let tables : List ℕ → Tables = λ next. record { sizes = a.sizes.now; ready = a.ready.now; next = next } in
-    let l = c.loop-q in
-    let entry = index-more (tables []) a.count l.row l.q (omega arith) refl in
-    omega (arith, piece-room (l.invariant.0 []) entry, length-16 l.row)
+    record {
+      room =
+          let a = c.args in
+          let tables : List ℕ → Tables = λ next. record { sizes = a.sizes.now; ready = a.ready.now; next = next } in
+          let l = c.loop-q in
+          let entry = index-more (tables []) a.count l.row l.q (omega arith) refl in
+          omega (arith, piece-room (l.invariant.0 []) entry, length-16 l.row);
     }
 
 pub row_length_at-row-requires : goal.row_length_at-row-requires

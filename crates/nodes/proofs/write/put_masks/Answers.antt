@@ -22,10 +22,11 @@ slice_bounds-put_word-start c = omega (arith, writing-room c.loop-i.invariant.0)
 
 pub put_word-requires : goal.put_word-requires
 put_word-requires c =
-    record { room =
-    let l = c.loop-i in
-    let masks = c.args.masks.now in
-    omega (arith, piece-room l.invariant.0 (masks-more masks l.i (omega arith)), length-16 (get_or masks l.i 0))
+    record {
+      room =
+          let l = c.loop-i in
+          let masks = c.args.masks.now in
+          omega (arith, piece-room l.invariant.0 (masks-more masks l.i (omega arith)), length-16 (get_or masks l.i 0));
     }
 
 pub overflow_add-at : goal.overflow_add-at

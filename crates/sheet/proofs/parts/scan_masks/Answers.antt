@@ -21,12 +21,12 @@ loop-left-preserved c =
     let over = low-over b (λ i. omega (arith, c.type_inv.b i)) (l.left - 1) (l.i + 2) in
     let union = l.invariant.0 ∙ union-behind b l.i _ is l.union l.left (omega arith) in
     elim c.if-least-mask.branch [
-      then-least-mask w ↦
-        let behind = low-behind b l.i _ is l.least l.left (omega arith) w.if-least-mask.true in
-        (union, rw (w.least-is, w.low-is) (omega (arith, l.invariant.1, behind)), omega (arith, w.low-is), omega arith)
-    | else-least-mask w ↦
-        let here = low-now b l.i _ is l.least l.left (omega arith) w.if-least-mask.false in
-        (union, rw (w.least-is, w.low-is) (omega (arith, l.invariant.1, here, over)), omega (arith, w.low-is), omega arith)
+      | then-least-mask w ↦
+          let behind = low-behind b l.i _ is l.least l.left (omega arith) w.if-least-mask.true in
+          (union, rw (w.least-is, w.low-is) (omega (arith, l.invariant.1, behind)), omega (arith, w.low-is), omega arith)
+      | else-least-mask w ↦
+          let here = low-now b l.i _ is l.least l.left (omega arith) w.if-least-mask.false in
+          (union, rw (w.least-is, w.low-is) (omega (arith, l.invariant.1, here, over)), omega (arith, w.low-is), omega arith)
     ]
 
 pub returns : goal.returns
