@@ -6,7 +6,6 @@ use mathlib.Core.List.{List, ◌++◌}
 use mathlib.Core.Logic.{inl, inr, ⊎_elim}
 use Prim.Native.Nat.{ℕ, ◌+◌, ◌-◌, ◌*◌, ◌/◌, ◌%◌, ◌^◌, ◌≤◌, ◌<◌}
 use native.Mathlib.Omega.{arith}
-use native.Mathlib.Nat.{pow-le-pow_right}
 use lib.ListN.{
   length,
   get_or,
@@ -124,17 +123,11 @@ module _ {bits : ℕ} {one other out : List ℕ} (given : Sizes bits one other o
   double : 2 ^ bits ≡ 2 ^ j + 2 ^ j
   double = let e : bits ≡ j + 1 = omega arith in ap (λ (n : ℕ). 2 ^ n) e ∙ omega (arith, pow-add 2 j 1)
 
-  -- half the length is a power of 2 again, and not above 128
+  -- half the length is a power of 2 again
   half_is : h ≡ 2 ^ j
   half_is = omega (arith, double)
 
-  pub half-small : h ≤ 128
-  half-small =
-      let few_bits : j ≤ 7 = omega (arith, given) in
-      let small : 2 ^ j ≤ 2 ^ 7 = pow-le-pow_right (omega arith) few_bits in
-      omega (arith, half_is)
-
-  pub out-whole : length out ≡ h + h
+  out-whole : length out ≡ h + h
   out-whole = omega (arith, half_is, double)
 
   other-whole : length other ≡ h + h
@@ -169,7 +162,7 @@ module _ {bits : ℕ} {one other out : List ℕ} (given : Sizes bits one other o
     abbrev out₁ : List ℕ
     out₁ = xs ++ drop h out
 
-    pub length₁ : length out₁ ≡ h + h
+    length₁ : length out₁ ≡ h + h
     length₁ = length-append xs (drop h out) ∙ omega (arith, length-drop h out, half_is, out-whole)
 
     pub second-sizes : Sizes j (take h one) (back_of h other) (back_of h out₁)
@@ -192,16 +185,8 @@ module _ {bits : ℕ} {one other out : List ℕ} (given : Sizes bits one other o
       abbrev out₂ : List ℕ
       out₂ = with_back h out₁ ys
 
-      pub length₂ : length out₂ ≡ h + h
+      length₂ : length out₂ ≡ h + h
       length₂ = with-length h out₁ length₁ ys (ys-many ∙ sym half_is)
-
-      pub third-sizes : (both : List ℕ) → h ≤ length both → Sizes j (back_of h one) (take h both) (back_of h out₂)
-      third-sizes both wide = record {
-        few = omega (arith, given);
-        one_long = high-lent one one-whole;
-        other_long = low-lent both wide;
-        out_long = high-lent out₂ length₂;
-      }
 
       -- after the third
       module _ (zs : List ℕ) (zs-many : length zs ≡ 2 ^ j) where

@@ -1,7 +1,7 @@
 -- `text_places::fill_wanted` meets its contract. The loop's invariant: all places of the set before place p are written.
 -- Assumes nothing.
 use mathlib.Core.Path.{◌≡◌, subst, sym, ◌∙◌}
-use Prim.Native.Nat.{ℕ, ◌-◌}
+use Prim.Native.Nat.{ℕ}
 use native.Mathlib.Omega.{arith}
 use lib.ListN.{length}
 use Rattle.text_places.specs.Filled.{Filling}

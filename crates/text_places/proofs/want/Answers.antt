@@ -1,7 +1,7 @@
 -- `text_places::want` meets its contract. The loop's invariant: the set has the first place and those behind the prefixes before place p.
 -- Assumes nothing.
 use mathlib.Core.Path.{◌≡◌, subst, sym, ◌∙◌}
-use Prim.Native.Nat.{ℕ, ◌-◌}
+use Prim.Native.Nat.{ℕ}
 use native.Mathlib.Omega.{arith}
 use lib.ListN.{length}
 use Rattle.text_places.specs.Wanted.{Wanting}
