@@ -1,4 +1,4 @@
-//! Names the product's static library, which `rt staticlib adapter` writes, to the linker.
+//! Names the product's static library, which `tools/build adapter` writes, to the linker.
 
 fn main() {
     let folder = concat!(env!("CARGO_MANIFEST_DIR"), "/../../target/staticlib");
