@@ -1,7 +1,6 @@
 -- What is accepted in the settled mode is accepted in the paper's, `settled-stricter`: the same pairs are walked, and each is sound in the
 -- paper's mode too, which asks less.
 -- Assumes nothing.
-use mathlib.Core.Path.{◌≡◌}
 use mathlib.Core.List.{List}
 use Prim.Native.Nat.{ℕ}
 use native.Mathlib.Omega.{arith}

@@ -14,7 +14,7 @@ use Rattle.model.specs.Sheet.{Reading, good, refusal, Fault, Sheet, read_sheet, 
 use Rattle.model.specs.Situation.{Situation}
 use Rattle.model.specs.Test.{Mode, test}
 use Rattle.model.specs.Connect.{refused, counted, connected, limit_of, ranked, outcome_of, connect_of}
-use Rattle.model.specs.Client.{complies, complies_in, complies_of}
+use Rattle.model.specs.Client.{complies_in, complies_of}
 use Rattle.model.specs.AtFault.{carried_fault, Carries, in_answer, in_checked, Carried}
 use Rattle.model.proofs.Refusals.{OnlyRefused, only-check, only_then, only-elim, sheet-numbers}
 use Rattle.model.proofs.Connect.{Shape, cut_off, removed, too_long, fits, shape}

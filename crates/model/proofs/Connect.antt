@@ -7,7 +7,7 @@ use mathlib.Core.Logic.{◌≢◌, ◌↔◌, inl, inr, ◌⊎◌}
 use mathlib.Core.Option.{Option, some, some-injective}
 use mathlib.Core.List.Memᴰ
 use mathlib.Core.List.{List, [], ◌∷◌, ◌++◌, append-nil, nil≢cons, Memᴰ}
-use Prim.Native.Nat.{ℕ, ◌+◌, ◌*◌, ◌≤◌, ◌<◌}
+use Prim.Native.Nat.{ℕ, ◌*◌, ◌≤◌, ◌<◌}
 use native.Mathlib.Omega.{arith}
 use lib.ListN.{length, get_or, get_elem?, length-append, length-map}
 use lib.Dec.{T, leb, leb→le, le→leb, ltb}

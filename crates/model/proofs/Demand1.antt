@@ -2,7 +2,7 @@
 -- Assumes nothing.
 use mathlib.Core.Path.{◌≡◌, refl, ap, subst⁻¹, ◌∙◌}
 use mathlib.Core.Bool.{Bool, true, false, cond, ◌||◌}
-use mathlib.Core.Logic.{◌⊎◌, inl, inr, ⊎_elim}
+use mathlib.Core.Logic.{inl, inr, ⊎_elim}
 use mathlib.Core.Option.{Option, none, some}
 use mathlib.Core.List.{List, [], ◌++◌, map}
 use Prim.Native.Nat.{ℕ, ◌+◌, ◌≤◌, ◌<◌}
@@ -17,7 +17,7 @@ use Rattle.model.specs.Test.{Mode, test}
 use Rattle.model.specs.Sheet.{Reading, good, refusal, Refusal, plain, Both, read_both}
 use Rattle.model.specs.Plan.{held, Plan, read_plan, row_step, step_in, step_of}
 use Rattle.model.specs.Connect.{Outcome, refused, counted, connected, limit_of, ranked, outcome_of, clears, connect_of}
-use Rattle.model.specs.Client.{complies, complies_in, complies_of}
+use Rattle.model.specs.Client.{complies_in, complies_of}
 use Rattle.model.specs.Demands.{Answers, Steps, Demand-1, number}
 use Rattle.model.proofs.Refusals.{OnlyRefused, both-numbers}
 use Rattle.model.proofs.Connect.{Shape, cut_off, removed, too_long, fits, shape}

@@ -1,7 +1,7 @@
 -- One move more: the history has its code last, and the buffer and the situation are what the move makes of those before. An enabled move
 -- leads where it says, and the buffer of the situation that moves lead to is the buffer that they leave.
 -- Assumes nothing.
-use mathlib.Core.Path.{◌≡◌, refl, sym, ap, ◌∙◌}
+use mathlib.Core.Path.{◌≡◌, refl, ap, ◌∙◌}
 use mathlib.Core.List.{List, [], ◌∷◌, ◌++◌}
 use mathlib.Core.Option.{Option, none, some, bind, some-injective}
 use Prim.Native.Nat.{ℕ}

@@ -14,7 +14,7 @@ use Rattle.model.specs.Lists.{any, all, upto}
 use Rattle.model.specs.Contract.{Contract, State, actions, has, state, offers_in, offers}
 use Rattle.model.specs.Situation.{Situation}
 use Rattle.model.specs.Test.{listed, covered, covers, hope, answered, Mode, is_settled, silent, rests, waits, asked, delivered, test}
-use Rattle.model.specs.Weak.{Perceived, Covered, Hope, Passes, Rests, Waits, Delivers, Asks, AsksAt}
+use Rattle.model.specs.Weak.{Perceived, Covered, Hope, Rests, Waits, Asks, AsksAt}
 use Rattle.model.proofs.Lists.{any-intro, any-elim, all-intro, all-elim, and_both, and-of, or_cases, or_left, or_right, if-elim, if-intro}
 use Rattle.model.proofs.Lists.{not-elim, not-intro}
 use Rattle.model.proofs.Actions.{mem-upto, upto-mem, action, action-below}

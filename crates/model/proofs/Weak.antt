@@ -7,8 +7,7 @@ use mathlib.Core.Bool.{Bool}
 use mathlib.Core.Option.{Option, some, some-injective}
 use mathlib.Core.List.Memᴰ
 use mathlib.Core.List.{List, [], Memᴰ}
-use Prim.Native.Nat.{ℕ, ◌+◌, ◌≤◌, ◌<◌}
-use lib.ListN.{length}
+use Prim.Native.Nat.{ℕ, ◌+◌, ◌<◌}
 use lib.Dec.{T}
 use Rattle.model.specs.Contract.{Contract, state, offers, after}
 use Rattle.model.specs.Situation.{Situation, straight, client, service, kind_of, start, same, codes, buffer_after, offered, old_after, new_after, next}

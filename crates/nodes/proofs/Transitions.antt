@@ -1,6 +1,6 @@
 -- A word is done up to a state directly behind it, and on by internal moves.
 -- Assumes nothing.
-use mathlib.Core.Path.{◌≡◌, refl, subst⁻¹}
+use mathlib.Core.Path.{refl, subst⁻¹}
 use mathlib.Core.List.{List}
 use Prim.Native.Nat.{ℕ}
 use Rattle.nodes.specs.Transitions.{Silently, rests, goes_on, Along, ends, does, Behind, at_once, acts}

@@ -8,7 +8,7 @@ use Prim.Native.Nat.{ℕ, ◌+◌, ◌*◌, ◌<◌, ◌≤◌}
 use native.Mathlib.Omega.{arith}
 use lib.ListN.{length}
 use Rattle.model.specs.Bytes.{byte}
-use Rattle.model.specs.Contract.{State, state, has, offers, offered_below, after}
+use Rattle.model.specs.Contract.{State, state, offers, offered_below, after}
 use Rattle.model.specs.Sheet.{Trailer, read_sheet, row_start, sheet_of, contract_in}
 use Rattle.sheet.specs.Union.{union_of}
 use Rattle.sheet.specs.Offer.{offer_in, place_in, IsOffered}

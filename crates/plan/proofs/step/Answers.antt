@@ -1,12 +1,7 @@
 -- `plan::step` meets its contract: bytes that pass the layout test stand as the index says, and the row decides.
 -- Assumes nothing.
-use mathlib.Core.Path.{◌≡◌, sym, ap, ◌∙◌}
-use mathlib.Core.Bool.{true}
-use Prim.Native.Nat.{◌<◌}
+use mathlib.Core.Path.{sym, ap, ◌∙◌}
 use native.Mathlib.Omega.{arith}
-use lib.ListN.{length}
-use Rattle.model.specs.Plan.{read_plan, rows_in}
-use Rattle.plan.specs.Layout.{is_some}
 use Rattle.plan.specs.Step.{stepped_of}
 use Rattle.plan.proofs.Stands.{stands, step-no-plan, step-no-state, step-state}
 use Rattle.plan.proofs.step.Goals as goal

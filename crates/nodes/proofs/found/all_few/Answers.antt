@@ -1,6 +1,5 @@
 -- `nodes::found::all_few` meets its contract. The loop's invariant: the test of all is that of those from i on. Assumes nothing.
 use mathlib.Core.Path.{refl, sym, ◌∙◌}
-use Prim.Native.Nat.{◌-◌}
 use native.Mathlib.Omega.{arith}
 use Rattle.nodes.proofs.Answering.{few-fails, few-next, few-end}
 use Rattle.nodes.proofs.found.all_few.Goals as goal

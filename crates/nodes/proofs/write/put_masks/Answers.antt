@@ -1,7 +1,6 @@
 -- `nodes::write::put_masks` meets its contract. The invariant: all but the masks from i on are written, up to the place `at`.
 -- Assumes nothing.
 use mathlib.Core.Path.{refl}
-use Prim.Native.Nat.{◌-◌}
 use native.Mathlib.Omega.{arith}
 use lib.ListN.{get_or}
 use Rattle.model.proofs.PlanBytes.{length-16}

@@ -1,6 +1,5 @@
 -- `nodes::write::put_rows` meets its contract. The invariant: all but the rows from state q on are written, up to the place `at`.
 -- Assumes nothing.
-use Prim.Native.Nat.{◌-◌}
 use native.Mathlib.Omega.{arith}
 use Rattle.nodes.specs.Tables.{Tables}
 use Rattle.nodes.proofs.Writing.{writing-begun, writing-length, writing-room, writing-ends}

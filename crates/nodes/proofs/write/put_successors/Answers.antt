@@ -1,7 +1,6 @@
 -- `nodes::write::put_successors` meets its contract. The invariant: all but the successors of the actions from j on are written, up to the
 -- place `at`.
 -- Assumes nothing.
-use Prim.Native.Nat.{◌-◌}
 use native.Mathlib.Omega.{arith}
 use Rattle.nodes.proofs.Writing.{writing-begun, writing-length, writing-room, writing-ends}
 use Rattle.nodes.proofs.Writing.{piece-fits, piece-room, writing_more}

@@ -1,7 +1,6 @@
 -- `nodes::write::union_of` meets its contract. The invariant: the union so far, with the masks from i on, is that of all.
 -- Assumes nothing.
 use mathlib.Core.Path.{refl, sym, ◌∙◌}
-use Prim.Native.Nat.{◌-◌}
 use native.Mathlib.Omega.{arith}
 use Rattle.sheet.specs.Union.{union_of}
 use Rattle.sheet.proofs.Union.{union-none, union_more}

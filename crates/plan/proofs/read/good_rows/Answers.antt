@@ -1,12 +1,9 @@
 -- `plan::read::good_rows` meets its contract. The loop's invariant: all rows can be read if those from row p, at i, can.
 -- The measure is the number of rows left. Assumes nothing.
-use mathlib.Core.Path.{◌≡◌, sym, ◌∙◌}
-use mathlib.Core.Bool.{Bool, true, false}
-use Prim.Native.Nat.{◌-◌}
+use mathlib.Core.Path.{sym, ◌∙◌}
 use native.Mathlib.Omega.{arith}
 use native.Mathlib.Numerals.{unary_clauses}
 use Rattle.model.specs.Bytes.{byte}
-use Rattle.plan.specs.Layout.{good_place}
 use Rattle.plan.proofs.Places.{place-within, rows_end, rows-bad, rows_more}
 use Rattle.plan.proofs.read.good_rows.Goals as goal
 

@@ -2,7 +2,6 @@
 -- the first of all. Assumes nothing.
 use mathlib.Core.Path.{sym, ◌∙◌}
 use native.Mathlib.Omega.{arith}
-use Rattle.model.specs.Sheet.{stray_bit}
 use Rattle.sheet.proofs.Scan.{first-none, first-now, first-behind}
 use Rattle.sheet.proofs.parts.first_stray.Goals as goal
 
