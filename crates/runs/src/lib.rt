@@ -5,7 +5,7 @@
 
 mod standstills;
 
-ghost use Rattle.std.specs.Prelude.{◌≡◌, []};
+ghost use Rattle.std.specs.Prelude.{◌≡◌, [], IfOk};
 ghost use Rattle.model.specs.Contract.{state};
 ghost use Rattle.model.specs.Sheet.{contract_in};
 ghost use Rattle.model.specs.Situation.{kind_of};
@@ -16,6 +16,8 @@ ghost use Rattle.sheet.specs.Whole.{IsState};
 ghost use Rattle.runs.specs.Runs.{run_of, MoveReady, attempts_in};
 
 use crate::standstills::{Standstills, count_standstills};
+use std::io;
+use std::io::Print;
 
 // The three states of a run, how many service-alone moves came right before, and the most that came in a row.
 #[derive(Clone, Copy)]
@@ -100,10 +102,10 @@ fn moved(client: &[u8], service: &[u8], run: Run, code: u8, to: u16) -> Run
     }
 }
 
-fn print_attempt(made: bool, stepped: plan::Stepped) {
-    framing::print_figure(if made { 1 } else { 0 });
-    framing::print_figure(stepped.number as u64);
-    framing::print_last(stepped.state as u64);
+fn print_attempt(rt: &impl Print, made: bool, stepped: plan::Stepped) -> io::Result<()> {
+    framing::print_figure(rt, if made { 1 } else { 0 })?;
+    framing::print_figure(rt, stepped.number as u64)?;
+    framing::print_last(rt, stepped.state as u64)
 }
 
 // Whether R and S are a choice: ready sets of the present client and service states.
@@ -115,52 +117,74 @@ fn is_choice(client: &[u8], service: &[u8], run: Run, R: u16, S: u16) -> bool
 }
 
 // The run after an attempt, whose line is printed.
-fn attempted(client: &[u8], service: &[u8], plan: &[u8], run: Run, R: u16, S: u16, code: u8) -> Run
+fn attempted(
+    rt: &impl Print,
+    client: &[u8],
+    service: &[u8],
+    plan: &[u8],
+    run: Run,
+    R: u16,
+    S: u16,
+    code: u8,
+) -> io::Result<Run>
     requires { IsState client.now run.client × IsState service.now run.service }
-    ensures { (run_of result
+    ensures { IfOk result (λ after. (run_of after
         ≡ attempted (contract_in client.now) (contract_in service.now) (rows_in plan.now) (run_of run)
         (record { R = R; S = S; code = code }))
-        × IsState client.now result.client × IsState service.now result.service }
+        × IsState client.now after.client × IsState service.now after.service) }
 {
     let stepped = plan::step(plan, run.plan, code);
     if is_choice(client, service, run, R, S) && stepped.number == 0 && need_met(R, S, code) {
-        print_attempt(true, stepped);
-        return moved(client, service, run, code, stepped.state);
+        print_attempt(rt, true, stepped)?;
+        return Ok(moved(client, service, run, code, stepped.state));
     }
-    print_attempt(false, stepped);
-    run
+    print_attempt(rt, false, stepped)?;
+    Ok(run)
 }
 
 // The run after a list of attempts, whose lines are printed.
-fn followed(client: &[u8], service: &[u8], plan: &[u8], attempts: &[u8], start: Run) -> Run
+fn followed(
+    rt: &impl Print,
+    client: &[u8],
+    service: &[u8],
+    plan: &[u8],
+    attempts: &[u8],
+    start: Run,
+) -> io::Result<Run>
     requires { IsState client.now start.client × IsState service.now start.service }
-    ensures { (run_of result
+    ensures { IfOk result (λ after. (run_of after
         ≡ run_from (contract_in client.now) (contract_in service.now) (rows_in plan.now) (run_of start)
         (attempts_in attempts.now))
-        × IsState client.now result.client × IsState service.now result.service }
+        × IsState client.now after.client × IsState service.now after.service) }
 {
     let mut run = start;
     let mut at: usize = 0;
     while 5 <= attempts.len() - at {
         let R = little_endian::word_at(attempts, at);
         let S = little_endian::word_at(attempts, at + 2);
-        run = attempted(client, service, plan, run, R, S, attempts[at + 4]);
+        run = attempted(rt, client, service, plan, run, R, S, attempts[at + 4])?;
         at += 5;
     }
-    run
+    Ok(run)
 }
 
-fn print_end(run: Run, stuck: Standstills) {
-    framing::print_figure(run.client as u64);
-    framing::print_figure(run.service as u64);
-    framing::print_figure(run.plan as u64);
-    framing::print_figure(stuck.all as u64);
-    framing::print_figure(stuck.unmarked as u64);
-    framing::print_last(run.longest as u64);
+fn print_end(rt: &impl Print, run: Run, stuck: Standstills) -> io::Result<()> {
+    framing::print_figure(rt, run.client as u64)?;
+    framing::print_figure(rt, run.service as u64)?;
+    framing::print_figure(rt, run.plan as u64)?;
+    framing::print_figure(rt, stuck.all as u64)?;
+    framing::print_figure(rt, stuck.unmarked as u64)?;
+    framing::print_last(rt, run.longest as u64)
 }
 
 // Prints the lines of a run from the start on.
-fn follow_sheets(client: &[u8], service: &[u8], plan: &[u8], attempts: &[u8])
+fn follow_sheets(
+    rt: &impl Print,
+    client: &[u8],
+    service: &[u8],
+    plan: &[u8],
+    attempts: &[u8],
+) -> io::Result<()>
     requires { IsState client.now 0 × IsState service.now 0 }
 {
     let start = Run {
@@ -170,42 +194,53 @@ fn follow_sheets(client: &[u8], service: &[u8], plan: &[u8], attempts: &[u8])
         alone: 0,
         longest: 0,
     };
-    let run = followed(client, service, plan, attempts, start);
+    let run = followed(rt, client, service, plan, attempts, start)?;
     let stuck = count_standstills(client, run.client, service, run.service, plan, run.plan);
-    print_end(run, stuck);
+    print_end(rt, run, stuck)
 }
 
 // The same for any bytes; nothing is printed where they are no client sheet and service sheet.
-fn follow(client: &[u8], service: &[u8], plan: &[u8], attempts: &[u8]) {
+fn follow(
+    rt: &impl Print,
+    client: &[u8],
+    service: &[u8],
+    plan: &[u8],
+    attempts: &[u8],
+) -> io::Result<()> {
     match pair::check_pair(1, 0, client, service) {
-        pair::Pair::Refused(_, _, _, _) => {}
-        pair::Pair::Good => follow_sheets(client, service, plan, attempts),
+        pair::Pair::Refused(_, _, _, _) => Ok(()),
+        pair::Pair::Good => follow_sheets(rt, client, service, plan, attempts),
     }
 }
 
 // The same with the plan behind its length, and the attempts behind the plan.
-fn follow_behind_service(client: &[u8], service: &[u8], rest: &[u8]) {
+fn follow_behind_service(
+    rt: &impl Print,
+    client: &[u8],
+    service: &[u8],
+    rest: &[u8],
+) -> io::Result<()> {
     if rest.len() < 2 {
-        return;
+        return Ok(());
     }
     let end = framing::part_end(rest, 0);
-    follow(client, service, &rest[2..end], &rest[end..]);
+    follow(rt, client, service, &rest[2..end], &rest[end..])
 }
 
 // The same with the service sheet behind its length too.
-fn follow_behind_client(client: &[u8], rest: &[u8]) {
+fn follow_behind_client(rt: &impl Print, client: &[u8], rest: &[u8]) -> io::Result<()> {
     if rest.len() < 2 {
-        return;
+        return Ok(());
     }
     let end = framing::part_end(rest, 0);
-    follow_behind_service(client, &rest[2..end], &rest[end..]);
+    follow_behind_service(rt, client, &rest[2..end], &rest[end..])
 }
 
 // Prints the lines of a case.
-pub fn answer(case: &[u8]) {
+pub fn answer(rt: &impl Print, case: &[u8]) -> io::Result<()> {
     if case.len() < 2 {
-        return;
+        return Ok(());
     }
     let end = framing::part_end(case, 0);
-    follow_behind_client(&case[2..end], &case[end..]);
+    follow_behind_client(rt, &case[2..end], &case[end..])
 }
