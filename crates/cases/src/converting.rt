@@ -3,6 +3,8 @@
 ghost use Rattle.std.specs.Prelude.{◌≡◌, ◌<◌, ◌≤◌, length};
 
 use crate::lines::print_behind;
+use std::io;
+use std::io::Print;
 
 // Gives the output at a place what it holds there before the call.
 fn fill_at(output: &mut [u8], place: usize)
@@ -22,34 +24,34 @@ fn fill(output: &mut [u8]) {
 }
 
 // Prints number, sheet and state of an answer.
-fn print_refusal(answer: nodes::SheetAnswer) {
-    framing::print_figure(answer.number as u64);
-    framing::print_figure(answer.sheet as u64);
-    framing::print_figure(answer.state as u64);
+fn print_refusal(rt: &impl Print, answer: nodes::SheetAnswer) -> io::Result<()> {
+    framing::print_figure(rt, answer.number as u64)?;
+    framing::print_figure(rt, answer.sheet as u64)?;
+    framing::print_figure(rt, answer.state as u64)
 }
 
 // Converts a choosing sheet, and prints the line.
-fn print_choosing(sheet: &[u8], output: &mut [u8]) {
+fn print_choosing(rt: &impl Print, sheet: &[u8], output: &mut [u8]) -> io::Result<()> {
     let answer = convert::convert(sheet, output);
-    print_refusal(answer);
-    print_behind(answer.length as u64, output);
+    print_refusal(rt, answer)?;
+    print_behind(rt, answer.length as u64, output)
 }
 
 // Converts a text, and prints the line.
-fn print_text(text: &[u8], output: &mut [u8]) {
+fn print_text(rt: &impl Print, text: &[u8], output: &mut [u8]) -> io::Result<()> {
     let answer = text_sheet::from_text(text, output);
-    print_refusal(answer);
-    framing::print_figure(answer.length as u64);
-    print_behind(text_sheet::text_fault(text) as u64, output);
+    print_refusal(rt, answer)?;
+    framing::print_figure(rt, answer.length as u64)?;
+    print_behind(rt, text_sheet::text_fault(text) as u64, output)
 }
 
 // Converts what the case has, and prints the line.
-fn print_case(is_text: bool, source: &[u8], output: &mut [u8]) {
+fn print_case(rt: &impl Print, is_text: bool, source: &[u8], output: &mut [u8]) -> io::Result<()> {
     fill(output);
     if is_text {
-        print_text(source, output);
+        print_text(rt, source, output)
     } else {
-        print_choosing(source, output);
+        print_choosing(rt, source, output)
     }
 }
 
@@ -61,18 +63,18 @@ fn output_before() -> [u8; 65535]
 }
 
 // Lends so many bytes.
-fn lend(is_text: bool, source: &[u8], room: usize)
+fn lend(rt: &impl Print, is_text: bool, source: &[u8], room: usize) -> io::Result<()>
     requires { room ≤ 65535 }
 {
     let mut output = output_before();
-    print_case(is_text, source, &mut output[..room]);
+    print_case(rt, is_text, source, &mut output[..room])
 }
 
 // Prints the line of a case.
-pub fn answer(is_text: bool, case: &[u8]) {
+pub fn answer(rt: &impl Print, is_text: bool, case: &[u8]) -> io::Result<()> {
     if case.len() < 2 {
-        return;
+        return Ok(());
     }
     let room = little_endian::word_at(case, 0) as usize;
-    lend(is_text, &case[2..], room);
+    lend(rt, is_text, &case[2..], room)
 }

@@ -1,6 +1,8 @@
 // Converts the choosing sheets that stand in frames on standard input, and prints the answer of each call and what the lent output holds.
 #![tactic(auto)]
 
-fn main() {
-    cases::answer_all(cases::Kind::Choosing);
+use std::io;
+
+fn main(rt: HostRuntime) -> io::Result<()> {
+    cases::answer_all(&rt, cases::Kind::Choosing)
 }

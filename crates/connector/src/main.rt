@@ -1,6 +1,8 @@
 // The connecting program of document 01, "Cases". Its stored input is case M1.
 #![tactic(auto)]
 
-fn main() {
-    connecting::connect_input();
+use std::io;
+
+fn main(rt: HostRuntime) -> io::Result<()> {
+    connecting::connect_input(&rt)
 }

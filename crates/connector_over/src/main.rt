@@ -1,6 +1,8 @@
 // The connecting program on a pair with one situation more than it lends records.
 #![tactic(auto)]
 
-fn main() {
-    connecting::connect_input();
+use std::io;
+
+fn main(rt: HostRuntime) -> io::Result<()> {
+    connecting::connect_input(&rt)
 }

@@ -2,6 +2,8 @@
 // was lent.
 #![tactic(auto)]
 
-fn main() {
-    cases::answer_all(cases::Kind::Edits);
+use std::io;
+
+fn main(rt: HostRuntime) -> io::Result<()> {
+    cases::answer_all(&rt, cases::Kind::Edits)
 }

@@ -15,16 +15,18 @@ ghost use Rattle.table.specs.Records.{blank};
 ghost use Rattle.lent.specs.Gives.{before, Gives};
 
 use crate::left::{count_records, digest};
+use std::io;
+use std::io::Print;
 
-fn print_answer(answer: connect::Answer) {
-    framing::print_figure(answer.number as u64);
-    framing::print_figure(answer.sheet as u64);
-    framing::print_figure(answer.state as u64);
-    framing::print_figure(answer.offset as u64);
-    framing::print_figure(answer.situations as u64);
-    framing::print_figure(answer.states as u64);
-    framing::print_figure(answer.rounds as u64);
-    framing::print_figure(answer.length as u64);
+fn print_answer(rt: &impl Print, answer: connect::Answer) -> io::Result<()> {
+    framing::print_figure(rt, answer.number as u64)?;
+    framing::print_figure(rt, answer.sheet as u64)?;
+    framing::print_figure(rt, answer.state as u64)?;
+    framing::print_figure(rt, answer.offset as u64)?;
+    framing::print_figure(rt, answer.situations as u64)?;
+    framing::print_figure(rt, answer.states as u64)?;
+    framing::print_figure(rt, answer.rounds as u64)?;
+    framing::print_figure(rt, answer.length as u64)
 }
 
 // What a call gave: the answer, and how many of the lent records are zero and how many are as they were.
@@ -114,14 +116,22 @@ fn lend_records(
 }
 
 // Lends so many records, and prints the line.
-fn print_case(mode: moves::Mode, k: u8, old: &[u8], new: &[u8], count: usize, plan: &mut [u8])
+fn print_case(
+    rt: &impl Print,
+    mode: moves::Mode,
+    k: u8,
+    old: &[u8],
+    new: &[u8],
+    count: usize,
+    plan: &mut [u8],
+) -> io::Result<()>
     requires { count ≤ 5000 }
 {
     let outcome = lend_records(mode, k, old, new, count, plan);
-    print_answer(outcome.answer);
-    framing::print_figure(digest(plan));
-    framing::print_figure(outcome.zero as u64);
-    framing::print_last(outcome.same as u64);
+    print_answer(rt, outcome.answer)?;
+    framing::print_figure(rt, digest(plan))?;
+    framing::print_figure(rt, outcome.zero as u64)?;
+    framing::print_last(rt, outcome.same as u64)
 }
 
 // What the plan holds before the call: every byte is EE hex.
@@ -132,29 +142,37 @@ fn plan_before() -> [u8; 65535]
 }
 
 // Lends so many records and so many plan bytes.
-fn lend(mode: moves::Mode, k: u8, old: &[u8], new: &[u8], count: usize, room: usize)
+fn lend(
+    rt: &impl Print,
+    mode: moves::Mode,
+    k: u8,
+    old: &[u8],
+    new: &[u8],
+    count: usize,
+    room: usize,
+) -> io::Result<()>
     requires { (count ≤ 5000) × (room ≤ 65535) }
 {
     let mut plan = plan_before();
-    print_case(mode, k, old, new, count, &mut plan[..room]);
+    print_case(rt, mode, k, old, new, count, &mut plan[..room])
 }
 
 // Prints the line of a case.
-pub fn answer(case: &[u8]) {
+pub fn answer(rt: &impl Print, case: &[u8]) -> io::Result<()> {
     if case.len() < 8 {
-        return;
+        return Ok(());
     }
     let count = little_endian::word_at(case, 0) as usize;
     if 5000 < count {
-        return;
+        return Ok(());
     }
     let room = little_endian::word_at(case, 2) as usize;
     let mode = moves::mode_of(case[4]);
     let end = framing::part_end(case, 6);
-    lend(mode, case[5], &case[8..end], &case[end..], count, room);
+    lend(rt, mode, case[5], &case[8..end], &case[end..], count, room)
 }
 
 // Prints the line of a case of a plan.
-pub fn answer_plan(case: &[u8]) {
-    plans::answer(case);
+pub fn answer_plan(rt: &impl Print, case: &[u8]) -> io::Result<()> {
+    plans::answer(rt, case)
 }

@@ -12,6 +12,8 @@ ghost use Rattle.lent.specs.Checks.{GivesCheck, GivesFault};
 
 use crate::left::count_records;
 use crate::{Outcome, counted, record_before};
+use std::io;
+use std::io::Print;
 
 // What a call for the fault gave: the fault, and how many of the lent records are zero and how many are as they were.
 #[derive(Clone, Copy)]
@@ -89,81 +91,95 @@ fn lend_fault(mode: moves::Mode, old: &[u8], new: &[u8], plan: &[u8], count: usi
 }
 
 // Prints the figures of a check.
-fn print_check(outcome: Outcome) {
+fn print_check(rt: &impl Print, outcome: Outcome) -> io::Result<()> {
     let answer = outcome.answer;
-    framing::print_figure(answer.number as u64);
-    framing::print_figure(answer.sheet as u64);
-    framing::print_figure(answer.state as u64);
-    framing::print_figure(answer.offset as u64);
-    framing::print_figure(outcome.zero as u64);
-    framing::print_figure(outcome.same as u64);
+    framing::print_figure(rt, answer.number as u64)?;
+    framing::print_figure(rt, answer.sheet as u64)?;
+    framing::print_figure(rt, answer.state as u64)?;
+    framing::print_figure(rt, answer.offset as u64)?;
+    framing::print_figure(rt, outcome.zero as u64)?;
+    framing::print_figure(rt, outcome.same as u64)
 }
 
 // Prints a number of messages.
-fn print_count(count: u8) {
-    framing::print_figure(count as u64);
+fn print_count(rt: &impl Print, count: u8) -> io::Result<()> {
+    framing::print_figure(rt, count as u64)
 }
 
 // Prints each of these.
-fn print_counts(counts: &[u8]) {
+fn print_counts(rt: &impl Print, counts: &[u8]) -> io::Result<()> {
     let mut j: usize = 0;
     while j < counts.len() {
-        print_count(counts[j]);
+        print_count(rt, counts[j])?;
         j += 1;
     }
+    Ok(())
 }
 
 // Prints the situation of a fault.
-fn print_situation(at: moves::Situation) {
+fn print_situation(rt: &impl Print, at: moves::Situation) -> io::Result<()> {
     let buffer = at.buffer;
     let counts = buffer.counts;
-    print_counts(&counts);
-    framing::print_figure(at.old as u64);
-    framing::print_figure(at.new as u64);
+    print_counts(rt, &counts)?;
+    framing::print_figure(rt, at.old as u64)?;
+    framing::print_figure(rt, at.new as u64)
 }
 
 // Prints the figures of a fault, to the end of the line.
-fn print_fault(outcome: FaultOutcome) {
+fn print_fault(rt: &impl Print, outcome: FaultOutcome) -> io::Result<()> {
     let fault = outcome.fault;
     let blame = fault.blame;
-    framing::print_figure(blame.condition as u64);
-    framing::print_figure(blame.code as u64);
-    framing::print_figure(blame.ready as u64);
-    framing::print_figure(fault.state as u64);
-    print_situation(fault.at);
-    framing::print_figure(outcome.zero as u64);
-    framing::print_last(outcome.same as u64);
+    framing::print_figure(rt, blame.condition as u64)?;
+    framing::print_figure(rt, blame.code as u64)?;
+    framing::print_figure(rt, blame.ready as u64)?;
+    framing::print_figure(rt, fault.state as u64)?;
+    print_situation(rt, fault.at)?;
+    framing::print_figure(rt, outcome.zero as u64)?;
+    framing::print_last(rt, outcome.same as u64)
 }
 
 // Lends so many records to each call, and prints the line.
-fn print_case(mode: moves::Mode, old: &[u8], new: &[u8], plan: &[u8], count: usize)
+fn print_case(
+    rt: &impl Print,
+    mode: moves::Mode,
+    old: &[u8],
+    new: &[u8],
+    plan: &[u8],
+    count: usize,
+) -> io::Result<()>
     requires { count ≤ 5000 }
 {
-    print_check(lend_check(mode, old, new, plan, count));
-    print_fault(lend_fault(mode, old, new, plan, count));
+    print_check(rt, lend_check(mode, old, new, plan, count))?;
+    print_fault(rt, lend_fault(mode, old, new, plan, count))
 }
 
 // The same with the new sheet behind its length, and the plan behind that sheet.
-fn print_behind_old(mode: moves::Mode, old: &[u8], rest: &[u8], count: usize)
+fn print_behind_old(
+    rt: &impl Print,
+    mode: moves::Mode,
+    old: &[u8],
+    rest: &[u8],
+    count: usize,
+) -> io::Result<()>
     requires { count ≤ 5000 }
 {
     if rest.len() < 2 {
-        return;
+        return Ok(());
     }
     let end = framing::part_end(rest, 0);
-    print_case(mode, old, &rest[2..end], &rest[end..], count);
+    print_case(rt, mode, old, &rest[2..end], &rest[end..], count)
 }
 
 // Prints the line of a case.
-pub fn answer(case: &[u8]) {
+pub fn answer(rt: &impl Print, case: &[u8]) -> io::Result<()> {
     if case.len() < 5 {
-        return;
+        return Ok(());
     }
     let count = little_endian::word_at(case, 0) as usize;
     if 5000 < count {
-        return;
+        return Ok(());
     }
     let mode = moves::mode_of(case[2]);
     let end = framing::part_end(case, 3);
-    print_behind_old(mode, &case[5..end], &case[end..], count);
+    print_behind_old(rt, mode, &case[5..end], &case[end..], count)
 }

@@ -1,6 +1,8 @@
 // Connects the pairs that stand in frames on standard input, and prints the answer of each call and what it left of what was lent.
 #![tactic(auto)]
 
-fn main() {
-    cases::answer_all(cases::Kind::Pairs);
+use std::io;
+
+fn main(rt: HostRuntime) -> io::Result<()> {
+    cases::answer_all(&rt, cases::Kind::Pairs)
 }

@@ -1,6 +1,8 @@
 // Follows the runs that stand in frames on standard input, and prints a line for each attempt and one for the end of each run.
 #![tactic(auto)]
 
-fn main() {
-    cases::answer_all(cases::Kind::Runs);
+use std::io;
+
+fn main(rt: HostRuntime) -> io::Result<()> {
+    cases::answer_all(&rt, cases::Kind::Runs)
 }

@@ -1,6 +1,8 @@
 // Checks the sheets that stand in frames on standard input, and prints number, state and offset of the refusal for each.
 #![tactic(auto)]
 
-fn main() {
-    cases::answer_all(cases::Kind::Sheets);
+use std::io;
+
+fn main(rt: HostRuntime) -> io::Result<()> {
+    cases::answer_all(&rt, cases::Kind::Sheets)
 }

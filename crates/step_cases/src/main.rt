@@ -1,6 +1,8 @@
 // Steps the plans that stand in frames on standard input, and prints number and next state for each.
 #![tactic(auto)]
 
-fn main() {
-    cases::answer_all(cases::Kind::Steps);
+use std::io;
+
+fn main(rt: HostRuntime) -> io::Result<()> {
+    cases::answer_all(&rt, cases::Kind::Steps)
 }

@@ -2,6 +2,8 @@
 // holds.
 #![tactic(auto)]
 
-fn main() {
-    cases::answer_all(cases::Kind::Texts);
+use std::io;
+
+fn main(rt: HostRuntime) -> io::Result<()> {
+    cases::answer_all(&rt, cases::Kind::Texts)
 }
