@@ -40,9 +40,6 @@ pub record CountedTo (v : ℕ) (ys : List Record) (found i : ℕ) : Type 0 where
   pub counted : found + count_of v (drop i ys) ≡ count_of v ys
 
 module _ (v : ℕ) (ys : List Record) where
-  pub counting-starts : CountedTo v ys 0 0
-  counting-starts = record { few = omega arith; within = omega arith; counted = omega arith }
-
   pub counting-onward : {found more i : ℕ} {y : Record} → CountedTo v ys found i → i < length ys → y ≡ get_or ys i blank
       → more ≡ found + cond (filled_with v y) 1 0 → CountedTo v ys more (i + 1)
   unfolding count_of

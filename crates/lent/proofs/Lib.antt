@@ -1,3 +1,2 @@
-pub mod Checks
 pub mod Counts
 pub mod Gives
