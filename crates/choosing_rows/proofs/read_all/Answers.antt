@@ -1,6 +1,5 @@
 -- `choosing_rows::read_all` meets its contract. The invariant: row r stands at `at`, the tables hold those in front of it, and none of
 -- them is at fault. Assumes nothing.
-use Prim.Native.Nat.{◌-◌}
 use native.Mathlib.Omega.{arith}
 use Rattle.choosing_rows.proofs.Reading.{none_read, some_read}
 use Rattle.choosing_rows.proofs.AllRows.{all-fault, rows-begin, rows-room, rows-gap, rows_end}

@@ -1,6 +1,5 @@
 -- `choosing_rows::read_groups` meets its contract. The invariant: the groups of the actions below j are read and stand in the table.
 -- Assumes nothing.
-use Prim.Native.Nat.{◌-◌}
 use native.Mathlib.Omega.{arith}
 use Rattle.choosing_rows.proofs.Reading.{read_none, read_some, none_read, some_read}
 use Rattle.choosing_rows.proofs.OpenRows.{groups-begin, groups-end, groups-bad, groups-on}

@@ -2,9 +2,8 @@
 -- The measure is the number of ready sets left. Assumes nothing.
 use mathlib.Core.Path.{sym, ap, ◌∙◌}
 use mathlib.Core.Option.{Option, none}
-use Prim.Native.Nat.{ℕ, ◌-◌}
+use Prim.Native.Nat.{ℕ}
 use native.Mathlib.Omega.{arith}
-use Rattle.model.specs.Test.{hope}
 use Rattle.edits.specs.Sound.{blamed}
 use Rattle.edits_rows.specs.Rows.{blame_from}
 use Rattle.edits_rows.proofs.FirstNot.{list-begin, list-none, list-here, list-more}
