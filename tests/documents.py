@@ -9,7 +9,9 @@ import sys
 from collections import Counter
 from pathlib import Path
 
-DOCUMENTS = [Path('README.md'), *sorted(Path('docs').glob('*.md')), Path('tests/README.md')]
+# docs/PORT.md lays what was before beside what is there
+PAGES = [path for path in sorted(Path('docs').glob('*.md')) if path.name != 'PORT.md']
+DOCUMENTS = [Path('README.md'), *PAGES, Path('tests/README.md')]
 # the crates whose definitions and statements an auditor reads
 STATEMENTS = ('model', 'why', 'nodes', 'choosing', 'text', 'edits', 'named_row')
 # words that stand for any name
@@ -22,15 +24,15 @@ EDITS = re.compile(r'\bedits?( of a contract| of contracts)? ((?:[a-z]\w*/\w+(?:
 GROUPS = re.compile(r'\b(?:sheet|pair|step|client|run|choosing|text|edit|row)_cases ' + NAMES)
 FUNCTION = re.compile(r'`(\w+)::(?:\w+::)*(\w+)`')
 # a name of ours by its form, with or without a field behind it: two words, or a capital letter
-WORD = re.compile(r'`([A-Za-z][\w′]*[-_A-Z][\w′-]*|[A-Z][a-z]+\w*)(?:\.(?!py|antt)([\w-]+))?`')
+WORD = re.compile(r"`([A-Za-z][\w']*[-_A-Z][\w'-]*|[A-Z][a-z]+\w*)(?:\.(?!py|antt)([\w-]+))?`")
 PATH = re.compile(r'(?<![\w/])((?:(?:crates|docs|examples|include|tests|tools|\.ci)|\w+/(?:specs|proofs|src))/[\w./-]*\w)')
 
 
 def written():
     """Every word of the crates, of the header and of the reference program."""
     patterns = ['crates.txt', 'crates/**/*.rt', 'crates/**/*.antt', 'include/*.h', 'tests/reference/*.py']
-    sources = [path for pattern in patterns for path in Path('.').glob(pattern)]
-    return {word for source in sources for word in re.findall(r'[A-Za-z][\w′-]*', source.read_text())}
+    sources = [path for pattern in patterns for path in Path('.').glob(pattern) if 'out' not in path.parts]
+    return {word for source in sources for word in re.findall(r"[A-Za-z][\w'-]*", source.read_text())}
 
 
 WORDS = written()
