@@ -58,9 +58,10 @@ pub fn read_full<R: Read>(input: &mut R, space: &mut [u8]) -> io::Result<usize>
     Ok(done)
 }
 
-// Reads as many bytes as asked to the start of the space.
+// Reads as many bytes as asked to the start of the space. An error leaves the space as long as it was, with any bytes in it.
 fn read_part<R: Read>(input: &mut R, space: &mut [u8], size: usize) -> io::Result<Frame>
-    ensures { IfOk result (λ f. f.length ≤ length space.new) }
+    ensures ok { IfOk result (λ f. f.length ≤ length space.new) }
+    ensures err { OnErr result (length space.new ≡ length space.old) }
 {
     if space.len() < size {
         return Ok(Frame {
@@ -78,7 +79,8 @@ fn read_part<R: Read>(input: &mut R, space: &mut [u8], size: usize) -> io::Resul
 // Reads the next frame of an input to the start of the space; none is whole where the input ends. An error leaves the space as long as it
 // was, with any bytes in it.
 pub fn read_frame<R: Read>(input: &mut R, space: &mut [u8]) -> io::Result<Frame>
-    ensures { IfOk result (λ f. f.length ≤ length space.new) }
+    ensures ok { IfOk result (λ f. f.length ≤ length space.new) }
+    ensures err { OnErr result (length space.new ≡ length space.old) }
 {
     let mut head = [0u8; 2];
     let n = read_full(input, &mut head)?;
