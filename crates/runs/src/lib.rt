@@ -134,7 +134,8 @@ fn attempted(
         × IsState client.now after.client × IsState service.now after.service) }
 {
     let stepped = plan::step(plan, run.plan, code);
-    if is_choice(client, service, run, R, S) && stepped.number == 0 && need_met(R, S, code) {
+    let granted = stepped.number == 0;
+    if is_choice(client, service, run, R, S) && granted && need_met(R, S, code) {
         print_attempt(rt, true, stepped)?;
         return Ok(moved(client, service, run, code, stepped.state));
     }

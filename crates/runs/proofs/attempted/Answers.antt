@@ -4,7 +4,7 @@ use Rattle.runs.specs.Runs.{run_of}
 use Rattle.runs.proofs.Moving.{move-ready}
 use Rattle.runs.proofs.Attempting.{attempt-made, attempt-unmet, attempt-refused, attempt-unchosen}
 use Rattle.runs.proofs.attempted.Goals as goal
-use Rattle.runs.proofs.attempted.Goals.{else-is_choice-via-then-is_choice+then-stepped-eq0+else-need_met, else-is_choice-via-then-is_choice+else-stepped-eq0, else-is_choice-via-else-is_choice}
+use Rattle.runs.proofs.attempted.Goals.{else-is_choice-via-then-is_choice+then-granted+else-need_met, else-is_choice-via-then-is_choice+else-granted, else-is_choice-via-else-is_choice}
 
 pub moved-requires : goal.moved-requires
 moved-requires g c =
@@ -25,7 +25,7 @@ returns-then-need_met g c =
     c.if-is_choice.true
     c.need_met.ensures
     c.if-need_met.true
-    c.if-stepped-eq0.true
+    c.if-granted.true
     after.0 in
     (made, after.1, after.2)
 
@@ -35,10 +35,10 @@ returns g c =
     let step = c.step-stepped.ensures in
     let choice = c.is_choice.ensures in (
       elim c.else-is_choice.branch [
-        | else-is_choice-via-then-is_choice+then-stepped-eq0+else-need_met w ↦
+        | else-is_choice-via-then-is_choice+then-granted+else-need_met w ↦
             attempt-unmet _ _ _ _ _ _ _ choice w.if-is_choice.true w.need_met.ensures w.if-need_met.false
-        | else-is_choice-via-then-is_choice+else-stepped-eq0 w ↦
-            attempt-refused _ _ _ _ _ _ _ step w.if-stepped-eq0.false
+        | else-is_choice-via-then-is_choice+else-granted w ↦
+            attempt-refused _ _ _ _ _ _ _ step w.if-granted.false
         | else-is_choice-via-else-is_choice w ↦ attempt-unchosen _ _ _ _ _ _ _ choice w.if-is_choice.false
       ],
       c.requires.0,
