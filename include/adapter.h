@@ -2,7 +2,7 @@
  * Connecting two service contracts, stepping a plan, checking a client against a service, converting a choosing sheet or a contract typed as
  * text, checking a plan from any hand, a row of a sheet: the proved library for C and C++.
  *
- * `rt staticlib adapter` proves the library and writes it to target/staticlib/libadapter.a, for x86-64 Linux. It needs nothing else but
+ * `tools/build adapter` proves the library and writes it to target/staticlib/libadapter.a, for x86-64 Linux. It needs nothing else but
  * memcpy and memset of the C library. examples/c is a program that uses it. The rules, sheets and plans are those of document 01 with
  * request 2/13 of document 02, choosing sheets those of its request 1/13, the check of a plan that of its request 3/13, the settled mode
  * that of its request 5/13, offsets and rows those of its request 6/13, texts those of its request 7/13; the words in quotation marks below
@@ -25,7 +25,7 @@
  *   - There is recursion in adapter_from_text and adapter_text_fault alone, no deeper than the depth of a text, which is 16, its chains of +
  *     and the bodies of its recs allow. Of the stack adapter_from_text uses some 84 KiB for a short text, and 244 KiB for the deepest that
  *     were tried; adapter_text_fault 23 KiB, adapter_complies some 13 KiB, adapter_from_choosing some 5 KiB, the others less than 2 KiB;
- *     that is measured and not proved.
+ *     that was measured with an older kit of the toolchain, and is not proved.
  */
 #ifndef ADAPTER_H
 #define ADAPTER_H
