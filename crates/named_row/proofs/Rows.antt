@@ -5,6 +5,8 @@ use mathlib.Core.Path.{◌≡◌, refl, sym, ap, ◌∙◌}
 use mathlib.Core.Bool.{Bool, true, false, cond}
 use mathlib.Core.Logic.{◌⊎◌, inl, inr}
 use mathlib.Core.List.{List}
+use Rattle.std.specs.Prelude.{Result, Ok, Err}
+use Rattle.std.specs.Result.{result_unwrap_or}
 use Prim.Native.Nat.{ℕ, ◌+◌, ◌-◌, ◌^◌, ◌≤◌, ◌<◌}
 use native.Mathlib.Omega.{arith}
 use lib.ListN.{length}
@@ -13,22 +15,20 @@ use borrow.Author.Tests.{lt-ltb, le-ltb, eq-eqb, ne_eqb, eqb-true}
 use Rattle.model.specs.Contract.{state, offers}
 use Rattle.model.specs.Sheet.{Reading, good, refusal, check, then, Sheet, read_sheet, row_start, contract_in, Refusal, in_place, plain}
 use Rattle.model.proofs.Sheet.{never-good, good-injective, check-good, then-good, place-good}
-use Rattle.sheet.specs.Answers.{finding_of}
+use Rattle.sheet.specs.Answers.{reading_of, on_result, whole}
 use Rattle.sheet.specs.Offer.{offer_in, place_in}
 use Rattle.sheet.specs.Whole.{IsSheet, IsState}
-use Rattle.sheet.specs.declared.Finding.{Finding}
-use Rattle.sheet.specs.declared.Finding.TheVariants as F
 use Rattle.sheet.specs.declared.Offer.{Offer}
-use Rattle.sheet.proofs.Answers.{fault-refusal}
+use Rattle.sheet.proofs.Answers.{was-refusal, answered-ok, answered-err}
 use Rattle.sheet.proofs.Ones.{ones-few, ones-offered}
 use Rattle.sheet.proofs.Whole.{is_read, sheet-stands, row-stands, row_within}
 use Rattle.named_row.specs.Row as row
 use Rattle.named_row.specs.Row.{named_sheet, row_length, row_in_sheet, row_in, part_or, row_part_of, refusal_or, row_refusal_of, whole_of}
-use Rattle.named_row.specs.Answers.{part_of, refusal_of, found_of}
+use Rattle.named_row.specs.Answers.{part_of, refusal_of, why_of}
 use Rattle.named_row.specs.declared.Part.{Part}
 use Rattle.named_row.specs.declared.RowRefusal.{RowRefusal}
-use Rattle.named_row.specs.declared.Found.{Found}
-use Rattle.named_row.specs.declared.Found.TheVariants as W
+use Rattle.named_row.specs.declared.Why.{Why}
+use Rattle.named_row.specs.declared.Why.TheVariants as W
 
 -- ---- the row of a state
 
@@ -72,98 +72,71 @@ module _ {b : List ℕ} {q : ℕ} (at : IsState b q) where
 
 module _ (sheet : ℕ) (b : List ℕ) (q : ℕ) where
   -- the sheet is refused
-  pub found-fault : (number at offset : ℕ) (r : Finding) → r ≡ finding_of (read_sheet b) → r ≡ F.Fault number at offset
-      → W.Refused number sheet at offset ≡ found_of (row_in_sheet sheet b q)
-  unfolding row_in_sheet in_place then found_of
-  found-fault number at offset r e w = rw (fault-refusal (read_sheet b) number at offset (sym e ∙ w)) refl
+  pub found-fault : (r : Refusal) → refusal r ≡ whole (in_place sheet (read_sheet b))
+      → refusal r ≡ on_result part_of (row_in_sheet sheet b q)
+  unfolding row_in_sheet then
+  found-fault r h = rw (was-refusal (λ s. tt) (in_place sheet (read_sheet b)) r h) refl
 
-  module _ (whole : IsSheet b) where
+  module _ (is : IsSheet b) where
     -- the state is not in it
-    pub found-no-state : length (contract_in b).states ≤ q → W.Refused 15 0 0 0 ≡ found_of (row_in_sheet sheet b q)
-    unfolding row_in_sheet in_place then check found_of plain contract_in
-    found-no-state h = rw (is_read b whole, le-ltb q (length (contract_in b).states) h) refl
+    pub found-no-state : length (contract_in b).states ≤ q → refusal (why_of W.State) ≡ on_result part_of (row_in_sheet sheet b q)
+    unfolding row_in_sheet in_place then check plain contract_in
+    found-no-state h = rw (is_read b is, le-ltb q (length (contract_in b).states) h) refl
 
     -- the row
     pub found-row : q < length (contract_in b).states → (p : Part)
         → p ≡ record { sheet = sheet; offset = row_start b q; length = row_length (state (contract_in b) q) }
-        → W.At p ≡ found_of (row_in_sheet sheet b q)
-    unfolding row_in_sheet in_place then check found_of part_of contract_in
-    found-row h p e = ap W.At e ∙ rw (is_read b whole, lt-ltb q (length (contract_in b).states) h) refl
+        → good p ≡ on_result part_of (row_in_sheet sheet b q)
+    unfolding row_in_sheet in_place then check part_of contract_in
+    found-row h p e = ap (λ (x : Part). good x) e ∙ rw (is_read b is, lt-ltb q (length (contract_in b).states) h) refl
 
 -- ---- in the one that is named
 
 module _ (first second : List ℕ) (sheet q : ℕ) where
-  pub found_first : sheet ≡ 1 → (r : Found) → r ≡ found_of (row_in_sheet 1 first q) → r ≡ found_of (row_in first second sheet q)
+  pub found_first : sheet ≡ 1 → row_in_sheet 1 first q ≡ row_in first second sheet q
   unfolding row_in named_sheet then
-  found_first e r is = is ∙ rw e refl
+  found_first e = rw e refl
 
-  pub found-second : sheet ≡ 2 → (r : Found) → r ≡ found_of (row_in_sheet 2 second q) → r ≡ found_of (row_in first second sheet q)
+  pub found-second : sheet ≡ 2 → row_in_sheet 2 second q ≡ row_in first second sheet q
   unfolding row_in named_sheet then
-  found-second e r is = is ∙ rw e refl
+  found-second e = rw e refl
 
-  pub found_none : (sheet ≡ 1 → ⊥) → (sheet ≡ 2 → ⊥) → W.Refused 8 0 0 0 ≡ found_of (row_in first second sheet q)
-  unfolding row_in named_sheet then found_of plain
+  pub found_none : (sheet ≡ 1 → ⊥) → (sheet ≡ 2 → ⊥) → refusal (why_of W.Unnamed) ≡ on_result part_of (row_in first second sheet q)
+  unfolding row_in named_sheet then plain
   found_none n m = rw (ne_eqb sheet 1 n, ne_eqb sheet 2 m) refl
 
   -- ---- what is found, as a part and as a refusal
 
-  module _ (found : Found) (is : found ≡ found_of (row_in first second sheet q)) where
-    found-good : (p : Part) → found ≡ W.At p → (x : row.Part) × (row_in first second sheet q ≡ good x) × (p ≡ part_of x)
-    unfolding found_of
-    found-good p e = go (row_in first second sheet q) refl
-      where
-        go : (r : Reading Refusal row.Part) → row_in first second sheet q ≡ r
-            → (x : row.Part) × (row_in first second sheet q ≡ good x) × (p ≡ part_of x)
-        go (good x) w =
-            let z : W.At (part_of x) ≡ W.At p = sym (ap found_of w) ∙ sym is ∙ e in
-            (x, w, (cc))
-        go (refusal x) w =
-            let z : W.Refused x.number x.sheet x.state x.offset ≡ W.At p = sym (ap found_of w) ∙ sym is ∙ e in
-            let n : ◌≡◌ {A = ℕ} 0 1 = cc in
-            absurd (omega arith)
+  abbrev row-read : Reading Refusal row.Part
+  row-read = row_in first second sheet q
 
-    found-refused : (number place at offset : ℕ) → found ≡ W.Refused number place at offset
-        → row_in first second sheet q ≡ refusal (record { number = number; sheet = place; state = at; offset = offset })
-    unfolding found_of
-    found-refused number place at offset e = go (row_in first second sheet q) refl
-      where
-        go : (r : Reading Refusal row.Part) → row_in first second sheet q ≡ r
-            → row_in first second sheet q ≡ refusal (record { number = number; sheet = place; state = at; offset = offset })
-        go (good x) w =
-            let z : W.At (part_of x) ≡ W.Refused number place at offset = sym (ap found_of w) ∙ sym is ∙ e in
-            let n : ◌≡◌ {A = ℕ} 0 1 = cc in
-            absurd (omega arith)
-        go (refusal x) w =
-            let z : W.Refused x.number x.sheet x.state x.offset ≡ W.Refused number place at offset = sym (ap found_of w) ∙ sym is ∙ e in
-            let n : x.number ≡ number = cc in
-            let p : x.sheet ≡ place = cc in
-            let s : x.state ≡ at = cc in
-            let o : x.offset ≡ offset = cc in
-            w ∙ (λ i. refusal (record { number = n i; sheet = p i; state = s i; offset = o i }))
+  -- what is said of a row where there is none
+  abbrev said : Reading Refusal row.Part → RowRefusal
+  said r = refusal_of (refusal_or r)
 
-    pub part-found : (p : Part) → found ≡ W.At p → p ≡ part_of (row_part_of first second sheet q)
-    unfolding row_part_of part_or
-    part-found p e =
-        let w = found-good p e in
-        w.2 ∙ ap (λ (r : Reading Refusal row.Part). part_of (part_or r)) (sym w.1)
-
-    pub part-empty : (number place at offset : ℕ) → found ≡ W.Refused number place at offset
-        → ◌≡◌ {A = Part} (record { sheet = 1; offset = 0; length = 0 }) (part_of (row_part_of first second sheet q))
+  module _ (found : Result Part Why) (is : reading_of why_of found ≡ on_result part_of (row_in first second sheet q)) where
+    pub part-found : result_unwrap_or found (record { sheet = 1; offset = 0; length = 0 }) ≡ part_of (row_part_of first second sheet q)
     unfolding row_part_of part_or part_of
-    part-empty number place at offset e =
-        ap (λ (r : Reading Refusal row.Part). part_of (part_or r)) (sym (found-refused number place at offset e))
+    part-found = go found refl
+      where
+        go : (x : Result Part Why) → found ≡ x
+            → result_unwrap_or found (record { sheet = 1; offset = 0; length = 0 }) ≡ part_of (row_part_of first second sheet q)
+        go (Ok p) e =
+            let w = answered-ok why_of part_of row-read is e in
+            rw e (w.2 ∙ ap (λ (r : Reading Refusal row.Part). part_of (part_or r)) (sym w.1))
+        go (Err why) e =
+            rw e (ap (λ (r : Reading Refusal row.Part). part_of (part_or r)) (sym (answered-err why_of part_of row-read is e)))
 
-    pub refusal-none : (p : Part) → found ≡ W.At p
+    pub refusal-none : {p : Part} → found ≡ Ok p
         → ◌≡◌ {A = RowRefusal} (record { number = 0; sheet = 0; state = 0; offset = 0 }) (refusal_of (row_refusal_of first second sheet q))
     unfolding row_refusal_of refusal_or refusal_of plain
-    refusal-none p e = ap (λ (r : Reading Refusal row.Part). refusal_of (refusal_or r)) (sym (found-good p e).1)
+    refusal-none e =
+        ap said (sym (answered-ok why_of part_of row-read is e).1)
 
-    pub refusal-found : (number place at offset : ℕ) → found ≡ W.Refused number place at offset
-        → ◌≡◌ {A = RowRefusal} (record { number = number; sheet = place; state = at; offset = offset })
-        (refusal_of (row_refusal_of first second sheet q))
-    unfolding row_refusal_of refusal_or refusal_of
-    refusal-found number place at offset e =
-        ap (λ (r : Reading Refusal row.Part). refusal_of (refusal_or r)) (sym (found-refused number place at offset e))
+    pub refusal-found : {why : Why} → found ≡ Err why → refusal_of (why_of why) ≡ refusal_of (row_refusal_of first second sheet q)
+    unfolding row_refusal_of refusal_or
+    refusal-found e =
+        ap said (sym (answered-err why_of part_of row-read is e))
 
 -- ---- what is handed back
 

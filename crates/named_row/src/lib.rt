@@ -5,11 +5,12 @@
 ghost use Rattle.std.specs.Prelude.{◌≡◌};
 ghost use Rattle.model.specs.Contract.{state};
 ghost use Rattle.model.specs.Sheet.{row_start, contract_in};
-ghost use Rattle.sheet.specs.Whole.{IsSheet, IsState};
+ghost use Rattle.sheet.specs.Whole.{IsState};
 ghost use Rattle.named_row.specs.Row.{row_length, row_in_sheet, row_in, row_part_of, row_refusal_of};
-ghost use Rattle.named_row.specs.Answers.{part_of, refusal_of, found_of, IsPart};
+ghost use Rattle.sheet.specs.Answers.{reading_of, on_result};
+ghost use Rattle.named_row.specs.Answers.{part_of, refusal_of, why_of, IsPart};
 
-use sheet::Finding;
+use sheet::Fault;
 
 // A part of one of two sheets: the sheet, 1 or 2, the offset in it at which the part begins, and how long the part is.
 #[repr(C)]
@@ -30,11 +31,31 @@ pub struct RowRefusal {
     pub offset: u16,
 }
 
-// The part that a row is, or a refusal: number, sheet, state, offset of the byte at fault.
+// Why there is no row: the sheet that is named is none, the state is not in it, or the number names no sheet.
 #[derive(Clone, Copy)]
-enum Found {
-    At(Part),
-    Refused(u8, u8, u8, u16),
+enum Why {
+    Sheet(u8, Fault),
+    State,
+    Unnamed,
+}
+
+#[tactic(auto, unfolding(crate::specs::Answers::refusal_of))]
+impl From<Why> for RowRefusal {
+    ghost from_gives = { λ why r. r ≡ refusal_of (why_of why) };
+
+    fn from(why: Why) -> RowRefusal {
+        let (number, sheet, state, offset) = match why {
+            Why::Sheet(sheet, fault) => (fault.number(), sheet, fault.state(), fault.offset()),
+            Why::State => (15, 0, 0, 0),
+            Why::Unnamed => (8, 0, 0, 0),
+        };
+        RowRefusal {
+            number,
+            sheet,
+            state,
+            offset,
+        }
+    }
 }
 
 // The row of state q in the sheet with a number.
@@ -49,58 +70,43 @@ fn part_in(sheet: u8, b: &[u8], q: u8) -> Part
     let begin = sheet::row_start(b, q);
     let end = sheet::place_in(sheet::offer_of(b, q), 14);
     Part {
-        sheet: sheet,
+        sheet,
         offset: begin as u16,
         length: (end - begin) as u16,
     }
 }
 
-// The same, or 15 for a state that is not in it.
-fn find_state(sheet: u8, b: &[u8], q: u8) -> Found
-    requires { IsSheet b.now }
-    ensures { result ≡ found_of (row_in_sheet sheet b.now q) }
+// The same, or why there is none: the sheet is refused, or the state is not in it.
+fn find_in(sheet: u8, b: &[u8], q: u8) -> Result<Part, Why>
+    ensures { reading_of why_of result ≡ on_result part_of (row_in_sheet sheet b.now q) }
 {
+    sheet::check_sheet(b).map_err(|fault| Why::Sheet(sheet, fault))?;
     if sheet::state_count(b) <= q {
-        return Found::Refused(15, 0, 0, 0);
+        return Err(Why::State);
     }
-    Found::At(part_in(sheet, b, q))
+    Ok(part_in(sheet, b, q))
 }
 
-// The same, or the refusal of the sheet.
-fn find_in(sheet: u8, b: &[u8], q: u8) -> Found
-    ensures { result ≡ found_of (row_in_sheet sheet b.now q) }
+// The row of a state in the sheet that is named.
+fn find(first: &[u8], second: &[u8], sheet: u8, q: u8) -> Result<Part, Why>
+    ensures { reading_of why_of result ≡ on_result part_of (row_in first.now second.now sheet q) }
 {
-    match sheet::check_sheet(b) {
-        Finding::Fault(number, state, offset) => Found::Refused(number, sheet, state, offset),
-        Finding::Whole => find_state(sheet, b, q),
+    match sheet {
+        1 => find_in(1, first, q),
+        2 => find_in(2, second, q),
+        _ => Err(Why::Unnamed),
     }
-}
-
-// The row of a state in the sheet that is named, or 8 for a number that names none.
-fn find(first: &[u8], second: &[u8], sheet: u8, q: u8) -> Found
-    ensures { result ≡ found_of (row_in first.now second.now sheet q) }
-{
-    if sheet == 1 {
-        return find_in(1, first, q);
-    }
-    if sheet == 2 {
-        return find_in(2, second, q);
-    }
-    Found::Refused(8, 0, 0, 0)
 }
 
 // Which part of the named sheet the row of a state is; the empty part of the first sheet where there is a refusal.
 pub fn row_part(first: &[u8], second: &[u8], sheet: u8, state: u8) -> Part
     ensures { result ≡ part_of (row_part_of first.now second.now sheet state) }
 {
-    match find(first, second, sheet, state) {
-        Found::At(part) => part,
-        Found::Refused(number, place, at, offset) => Part {
-            sheet: 1,
-            offset: 0,
-            length: 0,
-        },
-    }
+    find(first, second, sheet, state).unwrap_or(Part {
+        sheet: 1,
+        offset: 0,
+        length: 0,
+    })
 }
 
 // Why there is no such row, or all 0.
@@ -108,18 +114,13 @@ pub fn row_refusal(first: &[u8], second: &[u8], sheet: u8, state: u8) -> RowRefu
     ensures { result ≡ refusal_of (row_refusal_of first.now second.now sheet state) }
 {
     match find(first, second, sheet, state) {
-        Found::At(part) => RowRefusal {
+        Ok(_) => RowRefusal {
             number: 0,
             sheet: 0,
             state: 0,
             offset: 0,
         },
-        Found::Refused(number, place, at, offset) => RowRefusal {
-            number: number,
-            sheet: place,
-            state: at,
-            offset: offset,
-        },
+        Err(why) => RowRefusal::from(why),
     }
 }
 

@@ -2,53 +2,85 @@
 #![tactic(auto)]
 
 ghost use Rattle.std.specs.Prelude.{◌≡◌};
-ghost use Rattle.model.specs.Sheet.{read_both};
-ghost use Rattle.sheet.specs.Whole.{IsSheet};
-ghost use Rattle.pair.specs.Pairs.{pair_of};
+ghost use Rattle.model.specs.Sheet.{read_sheet, in_place, read_both};
+ghost use Rattle.sheet.specs.Answers.{reading_of, whole};
+ghost use Rattle.pair.specs.Pairs.{refusal_of};
 
-use sheet::Finding;
+use sheet::Fault;
 
-// Two sheets that can be used together, or a refusal: number, sheet, state, offset of the byte at fault.
-#[derive(Clone, Copy)]
-pub enum Pair {
-    Good,
-    Refused(u8, u8, u8, u16),
+// Why two sheets cannot be used together: one is none, named by its place, 1 or 2, or is in the wrong role for its place, or the two differ
+// in their names.
+#[derive(Clone, Copy, Debug, PartialEq, Eq)]
+pub enum Refusal {
+    Sheet(u8, Fault),
+    Role(u8),
+    Names,
+}
+
+impl Refusal {
+    // Its number in document 01's table.
+    pub fn number(self) -> u8
+        ensures { result ≡ (refusal_of self).number }
+    {
+        match self {
+            Refusal::Sheet(_, fault) => fault.number(),
+            Refusal::Role(_) => 8,
+            Refusal::Names => 9,
+        }
+    }
+
+    // The sheet that it carries, 0 where it carries none.
+    pub fn sheet(self) -> u8
+        ensures { result ≡ (refusal_of self).sheet }
+    {
+        match self {
+            Refusal::Sheet(place, _) | Refusal::Role(place) => place,
+            Refusal::Names => 0,
+        }
+    }
+
+    // The state that it is for, 0 where it is for none.
+    pub fn state(self) -> u8
+        ensures { result ≡ (refusal_of self).state }
+    {
+        match self {
+            Refusal::Sheet(_, fault) => fault.state(),
+            Refusal::Role(_) | Refusal::Names => 0,
+        }
+    }
+
+    // The offset of the byte at fault, 0 where no state is.
+    pub fn offset(self) -> u16
+        ensures { result ≡ (refusal_of self).offset }
+    {
+        match self {
+            Refusal::Sheet(_, fault) => fault.offset(),
+            Refusal::Role(_) | Refusal::Names => 0,
+        }
+    }
 }
 
 // Two sheets for two places, each wanted in its role.
-pub fn check_pair(role1: u8, role2: u8, one: &[u8], two: &[u8]) -> Pair
-    ensures { result ≡ pair_of (read_both role1 role2 one.now two.now) }
+pub fn check_pair(role1: u8, role2: u8, one: &[u8], two: &[u8]) -> Result<(), Refusal>
+    ensures { reading_of refusal_of result ≡ whole (read_both role1 role2 one.now two.now) }
 {
-    match sheet::check_sheet(one) {
-        Finding::Fault(number, state, offset) => Pair::Refused(number, 1, state, offset),
-        Finding::Whole => check_second(role1, role2, one, two),
-    }
-}
-
-// The same where the first is a sheet.
-fn check_second(role1: u8, role2: u8, one: &[u8], two: &[u8]) -> Pair
-    requires { IsSheet one.now }
-    ensures { result ≡ pair_of (read_both role1 role2 one.now two.now) }
-{
-    match sheet::check_sheet(two) {
-        Finding::Fault(number, state, offset) => Pair::Refused(number, 2, state, offset),
-        Finding::Whole => check_places(role1, role2, one, two),
-    }
-}
-
-// The same where both are sheets: their roles and their names.
-fn check_places(role1: u8, role2: u8, one: &[u8], two: &[u8]) -> Pair
-    requires { IsSheet one.now × IsSheet two.now }
-    ensures { result ≡ pair_of (read_both role1 role2 one.now two.now) }
-{
+    check_in_place(1, one)?;
+    check_in_place(2, two)?;
     if sheet::role(one) != role1 {
-        return Pair::Refused(8, 1, 0, 0);
+        return Err(Refusal::Role(1));
     }
     if sheet::role(two) != role2 {
-        return Pair::Refused(8, 2, 0, 0);
+        return Err(Refusal::Role(2));
     }
     if sheet::name_count(one) != sheet::name_count(two) {
-        return Pair::Refused(9, 0, 0, 0);
+        return Err(Refusal::Names);
     }
-    Pair::Good
+    Ok(())
+}
+
+// Whether the bytes in a place are a sheet.
+fn check_in_place(place: u8, b: &[u8]) -> Result<(), Refusal>
+    ensures { reading_of refusal_of result ≡ whole (in_place place (read_sheet b.now)) }
+{
+    sheet::check_sheet(b).map_err(|fault| Refusal::Sheet(place, fault))
 }

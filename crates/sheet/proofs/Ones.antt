@@ -4,14 +4,13 @@ use mathlib.Core.Path.{◌≡◌, refl, sym, ap, ◌∙◌}
 use mathlib.Core.Bool.{Bool, true, false, cond, ◌&&◌}
 use mathlib.Core.List.{List, [], ◌∷◌}
 use Prim.Native.Nat.{ℕ, zero, suc, ◌+◌, ◌*◌, ◌/◌, ◌%◌, ◌^◌, ◌<◌, ◌≤◌}
-use native.Mathlib.Nat.{mod-eq_of_lt, one-mul, mul-le-mul, mul-le-mul_left, pow-suc, pow-le-pow_right}
+use native.Mathlib.Nat.{mod-eq_of_lt, one-mul, pow-suc, pow-le-pow_right}
 use native.Mathlib.Omega.{arith}
 use lib.Dec.{eqb, ltb, leb-suc-suc}
 use lib.ListN.{length}
 use lib.Arith.{mod-mul}
 use lib.Pow.{pow_pos}
-use lib.Bits.{bit_and, and_le_l}
-use lib.Count.{ones, ones-ones, ones-le}
+use lib.Count.{ones, ones-ones}
 use lib.Count.{ones_step as digits_step}
 use borrow.Author.Tests.{lt-ltb, le-ltb, eqb-true}
 use Rattle.model.specs.Lists.{keep, upto}
@@ -29,18 +28,6 @@ low_bits mask c =
 pub one_shifted : (n most : ℕ) {width : ℕ} → n ≤ most → 2 ^ most < width → 1 * 2 ^ n % width ≡ 2 ^ n
 one_shifted n most {width} h l =
     ap (λ (x : ℕ). x % width) (one-mul (2 ^ n)) ∙ mod-eq_of_lt (omega (arith, pow-le-pow_right {n = 2} (omega arith) h))
-
--- and any number but 0 so shifted is not 0
-pub some-shifted : (a n most : ℕ) {width : ℕ} → 1 ≤ a → n ≤ most → a * 2 ^ most < width → 1 ≤ a * 2 ^ n % width
-some-shifted a n most {width} some h l =
-    let high : a * 2 ^ n ≤ a * 2 ^ most = mul-le-mul_left a (pow-le-pow_right {n = 2} (omega arith) h) in
-    let low : 1 * 1 ≤ a * 2 ^ n = mul-le-mul some (pow_pos n) in
-    let within : a * 2 ^ n < width = omega arith in
-    rw (mod-eq_of_lt within) (omega arith)
-
--- a part of a mask has at most 16 bits
-pub ones-within : (mask part : ℕ) → mask < 65536 → ones (bit_and mask part) ≤ 16
-ones-within mask part h = ones-le 16 (bit_and mask part) (omega (arith, and_le_l mask part))
 
 -- ---- counts of what passes a test
 module _ {p q : ℕ → Bool} (same : (i : ℕ) → p i ≡ q i) where

@@ -1,66 +1,85 @@
--- Masks from place to place, as a loop over them sees it: the first with a stray bit, the first out of order and the union, with none left
--- and with one mask passed. Each is one step of a definition. Assumes nothing.
-use mathlib.Core.Path.{◌≡◌, refl}
-use mathlib.Core.Bool.{true, false}
+-- Masks from place to place, as a loop over them sees it: the first that passes a test and the first out of order, with none left and with
+-- one mask passed. Each is one step of a definition. Assumes nothing.
+use mathlib.Core.Path.{◌≡◌, refl, sym, ap, ◌∙◌}
+use mathlib.Core.Bool.{Bool, true, false}
 use mathlib.Core.List.{List}
-use Prim.Native.Nat.{ℕ, zero, suc, ◌+◌, ◌-◌, ◌<◌, ◌≤◌}
+use Prim.Native.Nat.{ℕ, ◌+◌, ◌<◌, ◌≤◌}
 use native.Mathlib.Omega.{arith}
-use native.Mathlib.Numerals.{add-one, sub-one}
-use lib.Bits.{bit_or}
-use lib.ListN.{get_or}
+use native.Mathlib.Numerals.{add-one}
+use Rattle.std.specs.Prelude.{Option, Some, None}
+use Rattle.std.specs.Bool.{then_some}
+use Rattle.std.specs.Option.{MatchOption, option_or}
+use lib.Dec.{ltb}
+use lib.ListN.{length, get_or, drop, drop_of_length-le}
+use lib.Seq.{drop-cons}
+use borrow.Author.Tests.{lt-ltb, le-ltb, ltb-true, ltb-false, lt-leb, le-leb}
 use Rattle.model.specs.Lists.{place}
-use Rattle.model.specs.Bytes.{byte, word}
-use Rattle.model.specs.Sheet.{stray_bit, out_of_order, words_from}
-use Rattle.model.proofs.RowMasks.{first-here, first-later, low-here, low-later}
-use Rattle.sheet.specs.Union.{union_from}
+use Rattle.model.specs.Sheet.{out_of_order}
+use Rattle.sheet.specs.Answers.{found}
 
-module _ (b : List ℕ) where
+module _ (masks : List ℕ) (i : ℕ) where
   -- none left
-  pub first-none : (n role left i : ℕ) → left ≤ 0 → place (stray_bit n role) (words_from b left i) ≡ 0
-  unfolding place words_from
-  first-none n role zero i h = refl
-  first-none n role (suc left) i h = absurd (omega arith)
-
-  pub low-none : (least left i : ℕ) → left ≤ 0 → out_of_order least (words_from b left i) ≡ 0
-  unfolding out_of_order words_from
-  low-none least zero i h = refl
-  low-none least (suc left) i h = absurd (omega arith)
-
-  pub union-last : (union left i : ℕ) → left ≤ 0 → union_from union (words_from b left i) ≡ union
-  unfolding union_from words_from
-  union-last union zero i h = refl
-  union-last union (suc left) i h = absurd (omega arith)
-
-  -- bytes that are bytes: no mask is as high as 65,536
-  pub low-over : ((i : ℕ) → get_or b i 0 < 256) → (left i : ℕ) → out_of_order 65536 (words_from b left i) ≡ 0
-  unfolding word byte
-  low-over small zero i = low-none 65536 zero i (omega arith)
-  low-over small (suc left) i = low-here b 65536 i left (omega (arith, small i, small (i + 1)))
+  pub low-last : length masks ≤ i → (least : ℕ) → out_of_order least (drop i masks) ≡ 0
+  unfolding out_of_order
+  low-last h least = ap (out_of_order least) (drop_of_length-le masks h)
 
   -- one passed
-  module _ (i mask : ℕ) (w : mask ≡ word b i) where
-    pub first-now : (n role left : ℕ) → 0 < left → stray_bit n role mask ≡ true → place (stray_bit n role) (words_from b left i) ≡ 0
-    first-now n role zero h s = absurd (omega arith)
-    first-now n role (suc left) h s = first-here b (stray_bit n role) i left (rw w at s)
+  module _ (mask : ℕ) (m : mask ≡ get_or masks i 0) (h : i < length masks) where
+    pub first-now : (p : ℕ → Bool) → p mask ≡ true → place p (drop i masks) ≡ 0
+    unfolding place
+    first-now p e = ap (place p) (drop-cons masks i 0 h) ∙ rw (← m, e) refl
 
-    pub first-behind : (n role left : ℕ) → 0 < left → stray_bit n role mask ≡ false
-        → place (stray_bit n role) (words_from b left i) ≡ 1 + place (stray_bit n role) (words_from b (left - 1) (i + 2))
-    first-behind n role zero h s = absurd (omega arith)
-    first-behind n role (suc left) h s =
-        rw (sub-one (suc left)) (omega (arith, first-later b (stray_bit n role) i left (rw w at s)))
+    pub first-behind : (p : ℕ → Bool) → p mask ≡ false → place p (drop i masks) ≡ 1 + place p (drop (i + 1) masks)
+    unfolding place
+    first-behind p e = rw (add-one i) (ap (place p) (drop-cons masks i 0 h) ∙ rw (← m, e) (omega arith))
 
-    pub low-now : (least left : ℕ) → 0 < left → mask < least → out_of_order least (words_from b left i) ≡ 0
-    low-now least zero h l = absurd (omega arith)
-    low-now least (suc left) h l = low-here b least i left (rw w at l)
+    pub low-now : (least : ℕ) → mask < least → out_of_order least (drop i masks) ≡ 0
+    unfolding out_of_order
+    low-now least l = ap (out_of_order least) (drop-cons masks i 0 h) ∙ rw (← m, lt-leb least mask l) refl
 
-    pub low-behind : (least left : ℕ) → 0 < left → least ≤ mask
-        → out_of_order least (words_from b left i) ≡ 1 + out_of_order (mask + 1) (words_from b (left - 1) (i + 2))
-    low-behind least zero h l = absurd (omega arith)
-    low-behind least (suc left) h l =
-        rw (w, add-one (word b i), sub-one (suc left)) (omega (arith, low-later b least i left (rw w at l)))
+    pub low-behind : (least : ℕ) → least ≤ mask → out_of_order least (drop i masks) ≡ 1 + out_of_order (mask + 1) (drop (i + 1) masks)
+    unfolding out_of_order
+    low-behind least l =
+        rw (add-one i, add-one mask) (ap (out_of_order least) (drop-cons masks i 0 h) ∙ rw (← m, le-leb least mask l) (omega arith))
 
-    pub union-behind : (union left : ℕ) → 0 < left
-        → union_from union (words_from b left i) ≡ union_from (bit_or union mask) (words_from b (left - 1) (i + 2))
-    unfolding union_from words_from
-    union-behind union zero h = absurd (omega arith)
-    union-behind union (suc left) h = rw (w, sub-one (suc left)) refl
+-- ---- a place among so many
+pub found-within : (count i : ℕ) → i < count → found count i ≡ Some i
+found-within count i h = rw (lt-ltb i count h) refl
+
+pub found-past : (count i : ℕ) → count ≤ i → found count i ≡ None
+found-past count i h = rw (le-ltb i count h) refl
+
+pub found-some : (count i k : ℕ) → found count i ≡ Some k → (k ≡ i) × (i < count)
+found-some count i k e = go (ltb i count) refl e
+  where
+    go : (t : Bool) → ltb i count ≡ t → then_some t i ≡ Some k → (k ≡ i) × (i < count)
+    go true h e = ((cc), ltb-true i count h)
+    go false h e = cc
+
+pub found-none : (count i : ℕ) → found count i ≡ None → count ≤ i
+found-none count i e = go (ltb i count) refl e
+  where
+    go : (t : Bool) → ltb i count ≡ t → then_some t i ≡ None → count ≤ i
+    go true h e = cc
+    go false h e = ltb-false i count h
+
+-- ---- the first mask out of order, as a loop has met it or not
+module _ (masks : List ℕ) where
+  -- it was met, or it is as far on as `least`, the least number above the mask before, says
+  abbrev pub LowAt : (i least : ℕ) → Option ℕ → Type 0
+  LowAt i least low =
+      MatchOption low (out_of_order 0 masks ≡ i + out_of_order least (drop i masks)) (λ k. (k < length masks) × (out_of_order 0 masks ≡ k))
+
+  pub low-on : (i least : ℕ) (low : Option ℕ) → LowAt i least low → (mask : ℕ) → mask ≡ get_or masks i 0 → i < length masks
+      → LowAt (i + 1) (mask + 1) (option_or low (then_some (ltb mask least) i))
+  low-on i least (Some k) at mask m h = at
+  low-on i least None at mask m h = go (ltb mask least) refl
+    where
+      go : (t : Bool) → ltb mask least ≡ t → LowAt (i + 1) (mask + 1) (then_some t i)
+      go true l = (h, omega (arith, low-now masks i mask m h least (ltb-true mask least l)))
+      go false l = omega (arith, low-behind masks i mask m h least (ltb-false mask least l))
+
+  pub low-ends : (i least : ℕ) (low : Option ℕ) → LowAt i least low → (count : ℕ) → length masks ≡ count → i ≡ count
+      → low ≡ found count (out_of_order 0 masks)
+  low-ends i least (Some k) at count n e = sym (found-within count (out_of_order 0 masks) (omega arith) ∙ ap (λ (n : ℕ). Some n) at.1)
+  low-ends i least None at count n e = sym (found-past count (out_of_order 0 masks) (omega (arith, low-last masks i (omega arith) least)))

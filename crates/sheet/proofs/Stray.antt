@@ -108,7 +108,7 @@ has-marks mask role h l =
 
 -- ---- a stray bit by three tests, `limit` being the first number past the names' bits
 module _ (n role mask limit : ℕ) (l : role ≤ 1) (h : mask < 65536) (e : limit ≡ 2 ^ n) where
-  stray-tests : stray_bit n role mask
+  pub stray-tests : stray_bit n role mask
       ≡ ((leb limit (mask % 128) || leb limit (mask / 128 % 128)) || ltb role (mask / 16384))
   unfolding stray_bit
   stray-tests =
@@ -116,12 +116,3 @@ module _ (n role mask limit : ℕ) (l : role ≤ 1) (h : mask < 65536) (e : limi
       rw e
       (or_assoc (any stray actions) (has mask 15) (has mask 14 && eqb role 0)
       ∙ ap₂ ◌||◌ (any-halves stray ∙ ap₂ ◌||◌ (any-taken n mask) (any-sent n mask)) (has-marks mask role h l))
-
-  pub stray-taken : limit ≤ mask % 128 → true ≡ stray_bit n role mask
-  stray-taken t = rw stray-tests (simp (le-leb limit (mask % 128) t))
-
-  pub stray-sent : mask % 128 < limit → limit ≤ mask / 128 % 128 → true ≡ stray_bit n role mask
-  stray-sent t s = rw stray-tests (simp (lt-leb limit (mask % 128) t, le-leb limit (mask / 128 % 128) s))
-
-  pub stray-mark : mask % 128 < limit → mask / 128 % 128 < limit → ltb role (mask / 16384) ≡ stray_bit n role mask
-  stray-mark t s = rw stray-tests (simp (lt-leb limit (mask % 128) t, lt-leb limit (mask / 128 % 128) s))

@@ -3,3 +3,4 @@ pub mod Answers
 pub mod Whole
 pub mod Offer
 pub mod SuccessorAt
+pub mod Tests

@@ -5,13 +5,10 @@ ghost use Rattle.model.specs.Lists.{place};
 ghost use Rattle.model.specs.Sheet.{trailer, good_trailer, stray_bit, out_of_order, words_from, masks_from};
 ghost use Rattle.model.specs.Sheet.{successors_from, row_with, row_at, states_from};
 ghost use Rattle.sheet.specs.Union.{union_of};
-ghost use Rattle.sheet.specs.Answers.{trailer_of, finding_of, union_in, behind_in};
+ghost use Rattle.sheet.specs.Answers.{trailer_of, trailer_within, fault_of, reading_of, on_result, whole, behind_of, found};
 
-use super::{ACTION_BITS, Finding, ones_below};
+use super::{ACTION_BITS, Fault, ones_below};
 use little_endian::word_at;
-
-// A number above every mask.
-const ABOVE_MASKS: u32 = 65536;
 
 // The last 6 bytes of a sheet.
 #[derive(Clone, Copy)]
@@ -21,27 +18,6 @@ pub struct Trailer {
     pub n: u8,
     pub role: u8,
     pub closing: u8,
-}
-
-// Masks seen in one pass: their union, and the first that is out of order, counted from 0, or how many there are.
-#[derive(Clone, Copy)]
-pub struct Scanned {
-    pub union: u16,
-    pub low: usize,
-}
-
-// The masks of a row: their union, or the first fault.
-#[derive(Clone, Copy)]
-pub enum Masks {
-    Union(u16),
-    Fault(u8, u8, u16),
-}
-
-// A row: where the next one begins, or its first fault.
-#[derive(Clone, Copy)]
-pub enum Row {
-    Behind(usize),
-    Fault(u8, u8, u16),
 }
 
 // The trailer of bytes long enough to have one.
@@ -59,23 +35,18 @@ pub fn read_trailer(b: &[u8]) -> Trailer
     }
 }
 
-// Whether each number of a trailer is in its range.
+// Whether each number of a trailer is in its range: 1 to so many states, n 0 to 7, a role up to the highest, and its closing byte.
+pub fn trailer_within(t: Trailer, states: u8, role: u8, closing: u8) -> bool
+    ensures { result ≡ trailer_within (trailer_of t) states role closing }
+{
+    1 <= t.count && t.count <= states && t.n <= 7 && t.role <= role && t.closing == closing
+}
+
+// The same for sheets: up to 64 states, role 0 or 1, closing byte C5.
 pub fn good_trailer(t: Trailer) -> bool
     ensures { result ≡ good_trailer (trailer_of t) }
 {
-    if t.count < 1 {
-        return false;
-    }
-    if 64 < t.count {
-        return false;
-    }
-    if 7 < t.n {
-        return false;
-    }
-    if 1 < t.role {
-        return false;
-    }
-    t.closing == 0xC5
+    trailer_within(t, 64, 1, 0xC5)
 }
 
 // Whether a mask has a bit that a sheet over n names in this role may not have. Bits 0 to 6 are names taken, 7 to 13
@@ -85,165 +56,138 @@ pub fn stray_bit(n: u8, role: u8, mask: u16) -> bool
     ensures { result ≡ stray_bit n role mask }
 {
     let limit: u16 = 1 << n;
-    if limit <= mask % 128 {
-        return true;
-    }
-    if limit <= mask / 128 % 128 {
-        return true;
-    }
-    (role as u16) < mask / ACTION_BITS
+    limit <= mask % 128 || limit <= mask / 128 % 128 || u16::from(role) < mask / ACTION_BITS
 }
 
-// The first of `count` masks from an offset on that has a stray bit, counted from 0; `count` if none has.
-fn first_stray(b: &[u8], t: Trailer, count: usize, at: usize) -> usize
+// The first of `count` masks from an offset on that has a stray bit, counted from 0.
+fn first_stray(b: &[u8], t: Trailer, count: usize, at: usize) -> Option<usize>
     requires { (t.n ≤ 7) × (t.role ≤ 1) × (at + 2 * count ≤ length b.now) × (length b.now ≤ 2118) }
-    ensures { (result ≡ place (stray_bit t.n t.role) (words_from b.now count at)) × (result ≤ count) }
+    ensures { result ≡ found count (place (stray_bit t.n t.role) (words_from b.now count at)) }
 {
-    let mut left = count;
-    let mut i = at;
-    while 0 < left {
-        if stray_bit(t.n, t.role, word_at(b, i)) {
-            return count - left;
+    for i in 0..count {
+        if stray_bit(t.n, t.role, word_at(b, at + 2 * i)) {
+            return Some(i);
         }
-        i = i + 2;
-        left = left - 1;
     }
-    count
-}
-
-// What `count` masks from an offset on are together. No mask behind one that is out of order is counted.
-fn scan_masks(b: &[u8], count: usize, at: usize) -> Scanned
-    requires { (at + 2 * count ≤ length b.now) × (length b.now ≤ 2118) }
-    ensures { (result.union ≡ union_of (words_from b.now count at))
-        × (result.low ≡ out_of_order 0 (words_from b.now count at)) }
-{
-    let mut left = count;
-    let mut i = at;
-    let mut least: u32 = 0;
-    let mut union: u16 = 0;
-    let mut low: usize = 0;
-    while 0 < left {
-        let mask = word_at(b, i);
-        union = union | mask;
-        if least <= mask as u32 {
-            least = mask as u32 + 1;
-            low = low + 1;
-        } else {
-            least = ABOVE_MASKS;
-        }
-        i = i + 2;
-        left = left - 1;
-    }
-    Scanned {
-        union: union,
-        low: low,
-    }
+    None
 }
 
 // The `count` masks of state q from an offset on: none with a stray bit, and then strictly ascending. Some mask has a stray
-// bit exactly if their union has one.
-pub fn check_masks(b: &[u8], t: Trailer, q: u8, count: usize, at: usize) -> Masks
+// bit exactly if their union has one. What is handed on is the union.
+pub fn check_masks(b: &[u8], t: Trailer, q: u8, count: usize, at: usize) -> Result<u16, Fault>
     requires { (t.n ≤ 7) × (t.role ≤ 1) × (at + 2 * count ≤ length b.now) × (length b.now ≤ 2118) }
-    ensures { result ≡ union_in (masks_from b.now (trailer_of t) q count 0 at) }
+    ensures { reading_of fault_of result ≡ on_result union_of (masks_from b.now (trailer_of t) q count 0 at) }
 {
-    let masks = scan_masks(b, count, at);
-    if stray_bit(t.n, t.role, masks.union) {
-        return Masks::Fault(6, q, (at + 2 * first_stray(b, t, count, at)) as u16);
+    let mut union: u16 = 0;
+    let mut low = None;
+    let mut least: u32 = 0;
+    for i in 0..count {
+        let mask = word_at(b, at + 2 * i);
+        union |= mask;
+        low = low.or((u32::from(mask) < least).then_some(i));
+        least = u32::from(mask) + 1;
     }
-    if masks.low < count {
-        return Masks::Fault(5, q, (at + 2 * masks.low) as u16);
+    if stray_bit(t.n, t.role, union) {
+        let stray = first_stray(b, t, count, at).unwrap();
+        return Err(Fault::Action {
+            state: q,
+            offset: (at + 2 * stray) as u16,
+        });
     }
-    Masks::Union(masks.union)
+    match low {
+        Some(i) => Err(Fault::Ready {
+            state: q,
+            offset: (at + 2 * i) as u16,
+        }),
+        None => Ok(union),
+    }
 }
 
 // The `count` successors of state q from an offset on: each a state of the sheet.
-pub fn check_successors(b: &[u8], t: Trailer, q: u8, count: usize, at: usize) -> Finding
+pub fn check_successors(b: &[u8], t: Trailer, q: u8, count: usize, at: usize) -> Result<(), Fault>
     requires { (at + count ≤ length b.now) × (length b.now ≤ 2118) }
-    ensures { result ≡ finding_of (successors_from b.now (trailer_of t) q count at) }
+    ensures { reading_of fault_of result ≡ whole (successors_from b.now (trailer_of t) q count at) }
 {
-    let mut left = count;
-    let mut i = at;
-    while 0 < left {
+    for i in at..at + count {
         if t.count <= b[i] {
-            return Finding::Fault(7, q, i as u16);
+            return Err(Fault::Successor {
+                state: q,
+                offset: i as u16,
+            });
         }
-        i = i + 1;
-        left = left - 1;
     }
-    Finding::Whole
+    Ok(())
 }
 
-// What follows the masks of state q: a successor for each offered action. The masks count only by their union.
-pub fn check_behind(b: &[u8], t: Trailer, q: u8, at: usize, union: u16) -> Row
+// What follows the masks of state q: a successor for each offered action. The masks count only by their union. What is
+// handed on is where the next row begins.
+pub fn check_behind(b: &[u8], t: Trailer, q: u8, at: usize, union: u16) -> Result<usize, Fault>
     requires { (at ≤ t.index) × (t.index ≤ length b.now) × (length b.now ≤ 2118) }
-    ensures { result ≡ behind_in (row_with b.now (trailer_of t) q at (union ∷ [])) }
+    ensures { reading_of fault_of result ≡ on_result behind_of (row_with b.now (trailer_of t) q at (union ∷ [])) }
 {
-    let index = t.index as usize;
     let offered = ones_below(union, 14);
-    if index < at + offered {
-        return Row::Fault(4, q, t.index);
+    if (t.index as usize) < at + offered {
+        return Err(Fault::Row {
+            state: q,
+            offset: t.index,
+        });
     }
-    match check_successors(b, t, q, offered, at) {
-        Finding::Fault(number, state, offset) => Row::Fault(number, state, offset),
-        Finding::Whole => Row::Behind(at + offered),
-    }
+    check_successors(b, t, q, offered, at)?;
+    Ok(at + offered)
 }
 
-// The row of state q at an offset.
-pub fn check_row(b: &[u8], t: Trailer, q: u8, at: usize) -> Row
+// The row of state q at an offset. What is handed on is where the next one begins.
+pub fn check_row(b: &[u8], t: Trailer, q: u8, at: usize) -> Result<usize, Fault>
     requires { (t.n ≤ 7) × (t.role ≤ 1) × (t.index ≤ length b.now) × (length b.now ≤ 2118) }
-    ensures { result ≡ behind_in (row_at b.now (trailer_of t) q at) }
+    ensures { reading_of fault_of result ≡ on_result behind_of (row_at b.now (trailer_of t) q at) }
 {
     let index = t.index as usize;
+    let cut = Fault::Row {
+        state: q,
+        offset: t.index,
+    };
     if index <= at {
-        return Row::Fault(4, q, t.index);
+        return Err(cut);
     }
     let count = b[at] as usize;
-    if count < 1 {
-        return Row::Fault(5, q, at as u16);
-    }
-    if 8 < count {
-        return Row::Fault(5, q, at as u16);
+    if count < 1 || 8 < count {
+        return Err(Fault::Ready {
+            state: q,
+            offset: at as u16,
+        });
     }
     let behind = at + 1 + 2 * count;
     if index < behind {
-        return Row::Fault(4, q, t.index);
+        return Err(cut);
     }
-    match check_masks(b, t, q, count, at + 1) {
-        Masks::Fault(number, state, offset) => Row::Fault(number, state, offset),
-        Masks::Union(union) => check_behind(b, t, q, behind, union),
-    }
+    let union = check_masks(b, t, q, count, at + 1)?;
+    check_behind(b, t, q, behind, union)
 }
 
 // All states: each row where the index says, directly behind the one before, the last up to the index.
-pub fn check_states(b: &[u8], t: Trailer) -> Finding
+pub fn check_states(b: &[u8], t: Trailer) -> Result<(), Fault>
     requires whole { (good_trailer (trailer_of t) ≡ true)
         × (t.index + 2 * t.count + 6 ≡ length b.now)
         × (length b.now ≤ 2118) }
-    ensures { result ≡ finding_of (states_from b.now (trailer_of t) t.count 0 0) }
+    ensures { reading_of fault_of result ≡ whole (states_from b.now (trailer_of t) t.count 0 0) }
 {
     let index = t.index as usize;
-    let mut left = t.count;
-    let mut q: u8 = 0;
-    let mut at: usize = 0;
-    while 0 < left {
+    let mut next: usize = 0;
+    for q in 0..t.count {
         let entry = index + 2 * (q as usize);
-        if word_at(b, entry) as usize != at {
-            return Finding::Fault(4, q, entry as u16);
+        if word_at(b, entry) as usize != next {
+            return Err(Fault::Row {
+                state: q,
+                offset: entry as u16,
+            });
         }
-        match check_row(b, t, q, at) {
-            Row::Fault(number, state, offset) => {
-                return Finding::Fault(number, state, offset);
-            }
-            Row::Behind(behind) => {
-                at = behind;
-            }
-        }
-        q = q + 1;
-        left = left - 1;
+        next = check_row(b, t, q, next)?;
     }
-    if at != index {
-        return Finding::Fault(4, q - 1, at as u16);
+    if next != index {
+        return Err(Fault::Row {
+            state: t.count - 1,
+            offset: next as u16,
+        });
     }
-    Finding::Whole
+    Ok(())
 }

@@ -6,23 +6,16 @@ use Rattle.sheet.specs.Union.{union_of}
 use Rattle.sheet.proofs.Union.{union-none, union_more}
 use Rattle.sheet.proofs.offered.Goals as goal
 
-pub ready_count-left-requires : goal.ready_count-left-requires
-ready_count-left-requires c = c.requires
-
-pub loop-left-init : goal.loop-left-init
+pub loop-i-init : goal.loop-i-init
 unfolding union_of
-loop-left-init c = (refl, omega arith)
+loop-i-init c = (refl, omega arith)
 
-pub ready_set-union-requires : goal.ready_set-union-requires
-ready_set-union-requires c =
-    (c.requires, omega arith)
-
-pub loop-left-preserved : goal.loop-left-preserved
-loop-left-preserved c =
-    let l = c.loop-left in
+pub loop-i-preserved : goal.loop-i-preserved
+loop-i-preserved c =
+    let l = c.loop-i in
     (l.invariant.0 ∙ union_more _ l.i l.union _ c.ready_set-union.ensures (omega arith), omega arith)
 
 pub returns : goal.returns
 returns c =
-    let l = c.loop-left in
+    let l = c.loop-i in
     sym (l.invariant.0 ∙ union-none _ l.i l.union (omega arith))

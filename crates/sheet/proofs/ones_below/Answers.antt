@@ -2,12 +2,11 @@
 -- Assumes nothing.
 use mathlib.Core.Path.{◌≡◌, ap, ◌∙◌}
 use Prim.Native.Nat.{ℕ, ◌-◌, ◌*◌, ◌%◌, ◌^◌, ◌≤◌}
-use native.Mathlib.Nat.{lt_of_le_of_lt}
 use native.Mathlib.Omega.{arith}
 use lib.Bits.{bit_and, and_mask}
 use lib.Count.{ones}
 use Rattle.sheet.specs.Union.{ones_below}
-use Rattle.sheet.proofs.Ones.{one_shifted, some-shifted, ones-within, ones_low}
+use Rattle.sheet.proofs.Ones.{one_shifted, ones_low}
 use Rattle.sheet.proofs.ones_below.Goals as goal
 
 -- what is counted, as the code writes it
@@ -15,11 +14,5 @@ counted : (mask j : ℕ) → j ≤ 16 → ones (bit_and mask (1 * 2 ^ j % 429496
 counted mask j h =
     ap (λ (p : ℕ). ones (bit_and mask (p - 1))) (one_shifted j 16 h (omega arith)) ∙ ap ones (and_mask mask j) ∙ ones_low mask j
 
-pub overflow_sub-below : goal.overflow_sub-below
-overflow_sub-below c = some-shifted _ _ 16 (omega arith) c.requires (omega arith)
-
-pub overflow_cast-result-2 : goal.overflow_cast-result-2
-overflow_cast-result-2 c = record { fits = lt_of_le_of_lt {m = 16} (ones-within c.args.mask _ (omega arith)) (omega arith) }
-
 pub returns : goal.returns
-returns c = counted c.args.mask c.args.j c.requires
+returns c = rw c.from.ensures (counted c.args.mask c.args.j c.requires)

@@ -7,9 +7,6 @@ use Rattle.model.specs.Bytes.{word}
 use Rattle.sheet.proofs.Whole.{row-stands, row_within}
 use Rattle.sheet.proofs.ready_set.Goals as goal
 
-pub row_start-requires : goal.row_start-requires
-row_start-requires c = c.requires.0
-
 pub overflow_add-row_start : goal.overflow_add-row_start
 overflow_add-row_start c = omega (arith, row_within c.requires.0)
 

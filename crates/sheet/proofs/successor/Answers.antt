@@ -5,9 +5,6 @@ use native.Mathlib.Omega.{arith}
 use Rattle.sheet.proofs.SuccessorAt.{successor-within, successor-stands}
 use Rattle.sheet.proofs.successor.Goals as goal
 
-pub offer_of-requires : goal.offer_of-requires
-offer_of-requires c = c.requires.at
-
 pub successor_in-requires : goal.successor_in-requires
 successor_in-requires c =
     let pre = c.requires in

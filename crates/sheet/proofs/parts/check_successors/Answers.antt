@@ -1,27 +1,23 @@
 -- `sheet::parts::check_successors` meets its contract. The invariant: the successors left give the same answer.
 -- Assumes nothing.
-use mathlib.Core.Path.{refl, sym, ◌∙◌}
-use native.Mathlib.Omega.{arith}
+use Rattle.std.proofs.Common.{◌+◌, sym, ap, ◌∙◌, arith, ℕ}
 use Rattle.model.specs.Bytes.{byte}
+use Rattle.model.specs.Sheet.{successors_from}
+use Rattle.sheet.specs.Answers.{trailer_of, whole}
 use Rattle.sheet.proofs.RowAnswers.{successors-none, successors-fault, successors-more}
 use Rattle.sheet.proofs.parts.check_successors.Goals as goal
-
-pub loop-left-init : goal.loop-left-init
-loop-left-init c = (refl, omega arith)
 
 pub returns-then-t-b : goal.returns-then-t-b
 unfolding byte
 returns-then-t-b c =
-    let l = c.loop-left in
-    sym (l.invariant.0 ∙ successors-fault _ _ _ l.left l.i (omega arith) (omega arith))
+    sym (c.loop-i.invariant ∙ successors-fault _ _ _ _ _ (omega arith) (omega arith))
 
-pub loop-left-preserved : goal.loop-left-preserved
+pub loop-i-preserved : goal.loop-i-preserved
 unfolding byte
-loop-left-preserved c =
-    let l = c.loop-left in
-    (l.invariant.0 ∙ successors-more _ _ _ l.left l.i (omega arith) (omega arith), omega arith)
+loop-i-preserved c =
+    c.loop-i.invariant ∙ successors-more _ _ _ _ _ (omega arith) (omega arith)
+    ∙ ap (λ (n : ℕ). whole (successors_from c.args.b.now (trailer_of c.args.t) c.args.q n (c.loop-i.i + 1))) (omega arith)
 
 pub returns : goal.returns
 returns c =
-    let l = c.loop-left in
-    sym (l.invariant.0 ∙ successors-none _ _ _ l.left l.i (omega arith))
+    sym (c.loop-i.invariant ∙ successors-none _ _ _ _ _ (omega arith))
