@@ -3,15 +3,12 @@
 use std::io;
 use std::io::Print;
 
-pub fn answer(rt: &impl Print, case: &[u8]) -> io::Result<()> {
-    if case.len() < 2 {
+// Prints the line of a case.
+pub fn answer_client(rt: &impl Print, case: &[u8]) -> io::Result<()> {
+    let Some((client, service)) = framing::split_part(case) else {
         return Ok(());
-    }
-    let end = framing::part_end(case, 0);
-    let answer = comply::complies(&case[2..end], &case[end..]);
-    framing::print_figure(rt, answer.number as u64)?;
-    framing::print_figure(rt, answer.sheet as u64)?;
-    framing::print_figure(rt, answer.state as u64)?;
-    framing::print_figure(rt, answer.offset as u64)?;
-    framing::print_last(rt, if answer.yes { 1 } else { 0 })
+    };
+    let answer = comply::complies(client, service);
+    print!(rt; "{} {} {} ", answer.number, answer.sheet, answer.state)?;
+    println!(rt; "{} {}", answer.offset, u8::from(answer.yes))
 }

@@ -4,74 +4,32 @@
 
 mod clients;
 mod converting;
-mod lines;
 mod rows;
 mod sheets;
 mod steps;
 
+pub use clients::answer_client;
+pub use converting::{answer_choosing, answer_text};
+pub use lent::{answer as answer_pair, answer_plan};
+pub use rows::answer_row;
+pub use runs::answer as answer_run;
+pub use sheets::answer_sheet;
 use std::io;
-use std::io::{Input, Print, Read};
+use std::io::Input;
+pub use steps::answer_step;
 
-// What the cases are about.
-#[derive(Clone, Copy)]
-pub enum Kind {
-    Sheets,
-    Pairs,
-    Steps,
-    Clients,
-    Runs,
-    Choosing,
-    Edits,
-    Rows,
-    Texts,
-}
-
-fn answer(rt: &impl Print, kind: Kind, case: &[u8]) -> io::Result<()> {
-    match kind {
-        Kind::Sheets => sheets::answer(rt, case),
-        Kind::Pairs => lent::answer(rt, case),
-        Kind::Steps => steps::answer(rt, case),
-        Kind::Clients => clients::answer(rt, case),
-        Kind::Runs => runs::answer(rt, case),
-        Kind::Choosing => converting::answer(rt, false, case),
-        Kind::Edits => lent::answer_plan(rt, case),
-        Kind::Rows => rows::answer(rt, case),
-        Kind::Texts => converting::answer(rt, true, case),
-    }
-}
-
-// Reads a case, prints its lines, and answers true; false where there is none, or only a part of one.
-fn answer_next<R: Read>(
-    rt: &impl Print,
-    kind: Kind,
-    input: &mut R,
-    space: &mut [u8],
-) -> io::Result<bool> {
-    let frame = framing::read_frame(input, space)?;
-    if !frame.whole {
-        return Ok(false);
-    }
-    let length = frame.length;
-    answer(rt, kind, &space[..length])?;
-    Ok(true)
-}
-
-// Nothing says that the input ends, so the cases are counted down from a number that no run uses up.
-fn answer_rest<R: Read>(
-    rt: &impl Print,
-    kind: Kind,
-    input: &mut R,
-    space: &mut [u8],
-) -> io::Result<()> {
-    let mut turns = u64::MAX;
-    while turns > 0 && answer_next(rt, kind, input, space)? {
-        turns -= 1;
+// Prints the lines of every case, as what answers a case prints them. The space holds any case that its length can ask for. Nothing says
+// that the input ends, so the cases are counted up to a number that no run uses up.
+pub fn answer_all<F: Fn(&[u8]) -> io::Result<()>>(rt: &impl Input, answer: F) -> io::Result<()>
+    requires { F.IsAlwaysCallable answer }
+{
+    let mut input = rt.reader();
+    let mut space = [0u8; 65536];
+    for _ in 0..u64::MAX {
+        let Some(length) = framing::read_frame(&mut input, &mut space)? else {
+            return Ok(());
+        };
+        answer(&space[..length])?;
     }
     Ok(())
-}
-
-// Prints the lines of every case. The space holds any case that its length can ask for.
-pub fn answer_all(rt: &(impl Input + Print), kind: Kind) -> io::Result<()> {
-    let mut space = [0u8; 65536];
-    answer_rest(rt, kind, &mut rt.reader(), &mut space)
 }

@@ -2,15 +2,10 @@
 use std::io;
 use std::io::Print;
 
-fn print_line(rt: &impl Print, number: u8, state: u8, offset: u16) -> io::Result<()> {
-    framing::print_figure(rt, number as u64)?;
-    framing::print_figure(rt, state as u64)?;
-    framing::print_last(rt, offset as u64)
-}
-
-pub fn answer(rt: &impl Print, case: &[u8]) -> io::Result<()> {
+// Prints the line of a case.
+pub fn answer_sheet(rt: &impl Print, case: &[u8]) -> io::Result<()> {
     match sheet::check_sheet(case) {
-        sheet::Finding::Whole => print_line(rt, 0, 0, 0),
-        sheet::Finding::Fault(number, state, offset) => print_line(rt, number, state, offset),
+        sheet::Finding::Whole => println!(rt; "0 0 0"),
+        sheet::Finding::Fault(number, state, offset) => println!(rt; "{number} {state} {offset}"),
     }
 }

@@ -1,13 +1,14 @@
 // A case is a state (16 bits), a code and a plan. Its line: number and next state.
+use plan::Stepped;
 use std::io;
 use std::io::Print;
 
-pub fn answer(rt: &impl Print, case: &[u8]) -> io::Result<()> {
+// Prints the line of a case.
+pub fn answer_step(rt: &impl Print, case: &[u8]) -> io::Result<()> {
     if case.len() < 3 {
         return Ok(());
     }
     let state = little_endian::word_at(case, 0);
-    let stepped = plan::step(&case[3..], state, case[2]);
-    framing::print_figure(rt, stepped.number as u64)?;
-    framing::print_last(rt, stepped.state as u64)
+    let Stepped { number, state } = Stepped::from(plan::step(&case[3..], state, case[2]));
+    println!(rt; "{number} {state}")
 }

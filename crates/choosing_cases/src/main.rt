@@ -4,5 +4,5 @@
 use std::io;
 
 fn main(rt: HostRuntime) -> io::Result<()> {
-    cases::answer_all(&rt, cases::Kind::Choosing)
+    cases::answer_all(&rt, |case| cases::answer_choosing(&rt, case))
 }

@@ -5,5 +5,5 @@
 use std::io;
 
 fn main(rt: HostRuntime) -> io::Result<()> {
-    cases::answer_all(&rt, cases::Kind::Edits)
+    cases::answer_all(&rt, |case| cases::answer_plan(&rt, case))
 }

@@ -1,8 +1,12 @@
 -- Lent records are told apart by their numbers: how many of them have one value in all their numbers.
 -- Assumes nothing.
-use Rattle.std.specs.Prelude.{Bool, ◌&&◌, cond, List, [], ◌∷◌, ℕ, ◌+◌, eqb}
+use Rattle.std.specs.Prelude.{Bool, ◌&&◌, cond, List, [], ◌∷◌, ℕ, ◌+◌, ◌*◌, ◌%◌, eqb}
 use Rattle.model.specs.Lists.{all}
 use Rattle.table.specs.declared.Record.{Record}
+
+-- the digest of bytes and one more behind them
+unfoldable pub digested : ℕ → ℕ → ℕ
+digested figure byte = (257 * figure + byte + 1) % 4294967291
 
 -- the numbers of a record that stand alone
 unfoldable pub singles : Record → List ℕ

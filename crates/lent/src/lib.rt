@@ -8,158 +8,120 @@
 mod left;
 mod plans;
 
-ghost use Rattle.std.specs.Prelude.{◌≡◌, ◌≤◌, length, replicate};
+ghost use Rattle.std.specs.Prelude.{◌≡◌, ◌≤◌, List, length, replicate};
+ghost use Rattle.std.specs.Fn.{FnOnceReturnsAtMut};
 ghost use Rattle.model.specs.Connect.{connect_of};
 ghost use Rattle.moves.specs.Modes.{mode_of};
 ghost use Rattle.table.specs.Records.{blank};
+ghost use Rattle.table.specs.declared.Record.{Record};
+ghost use Rattle.lent.specs.Counts.{count_of};
 ghost use Rattle.lent.specs.Gives.{before, Gives};
 
 use crate::left::{count_records, digest};
 use std::io;
 use std::io::Print;
+use table::Record;
 
-fn print_answer(rt: &impl Print, answer: connect::Answer) -> io::Result<()> {
-    framing::print_figure(rt, answer.number as u64)?;
-    framing::print_figure(rt, answer.sheet as u64)?;
-    framing::print_figure(rt, answer.state as u64)?;
-    framing::print_figure(rt, answer.offset as u64)?;
-    framing::print_figure(rt, answer.situations as u64)?;
-    framing::print_figure(rt, answer.states as u64)?;
-    framing::print_figure(rt, answer.rounds as u64)?;
-    framing::print_figure(rt, answer.length as u64)
-}
-
-// What a call gave: the answer, and how many of the lent records are zero and how many are as they were.
+// What a call answered, how many of the lent records it left zero, and how many as they were.
 #[derive(Clone, Copy)]
-pub struct Outcome {
-    pub answer: connect::Answer,
-    pub zero: usize,
-    pub same: usize,
-}
-
-// An answer, with what was counted behind it.
-fn counted(answer: connect::Answer, zero: usize, same: usize) -> Outcome
-    ensures { result ≡ record { answer = answer; zero = zero; same = same } }
-{
-    Outcome {
-        answer: answer,
-        zero: zero,
-        same: same,
-    }
-}
-
-// Connects two sheets, and counts what became of the lent records, in which every number was 1.
-fn connect_lent(
-    mode: moves::Mode,
-    k: u8,
-    old: &[u8],
-    new: &[u8],
-    work: &mut [table::Record],
-    plan: &mut [u8],
-) -> Outcome
-    ensures { Gives
-        (connect_of blank (mode_of mode) k old.now new.now work.old plan.old)
-        result plan.new }
-{
-    let answer = connect::connect_mode(mode, k, old, new, work, plan);
-    let zero = count_records(work, 0);
-    let same = count_records(work, 1);
-    counted(answer, zero, same)
+struct Outcome<A> {
+    answer: A,
+    zero: usize,
+    same: usize,
 }
 
 // What a record holds before the call: no number of it is zero.
-fn record_before() -> table::Record
+fn record_before() -> Record
     ensures { result ≡ before }
 {
-    let buffer = moves::Buffer { counts: [1u8; 14] };
-    let at = moves::Situation {
-        buffer: buffer,
-        old: 1,
-        new: 1,
-    };
-    let present = moves::Present {
-        straight: 1,
-        client: 1,
-        service: 1,
-    };
-    table::Record {
-        at: at,
+    Record {
+        at: moves::Situation {
+            buffer: moves::Buffer { counts: [1; 14] },
+            old: 1,
+            new: 1,
+        },
         packed: 1,
         slot: 1,
         order: 1,
         mark: 1,
         number: 1,
-        present: present,
-        last: [1u16; keys::KINDS],
-        next: [1u16; keys::SLOTS],
-        before: [1u16; keys::SLOTS],
+        present: moves::Present {
+            straight: 1,
+            client: 1,
+            service: 1,
+        },
+        last: [1; keys::KINDS],
+        next: [1; keys::SLOTS],
+        before: [1; keys::SLOTS],
     }
 }
 
-// Lends so many records, of as many as the stored cases ask for.
-fn lend_records(
+// An answer, with what is counted in the records behind it.
+fn counted<A>(answer: A, work: &[Record]) -> Outcome<A>
+    ensures { result
+        ≡ record { answer = answer; zero = count_of 0 work.now; same = count_of 1 work.now } }
+{
+    Outcome {
+        answer,
+        zero: count_records(work, 0),
+        same: count_records(work, 1),
+    }
+}
+
+// Lends so many records to a call, of as many as the stored cases ask for, and counts what became of them.
+fn lend_records<A, F: FnOnce(&mut [Record]) -> A>(count: usize, call: F) -> Outcome<A>
+    requires few { count ≤ 5000 }
+    requires callable { F.IsAlwaysCallable call }
+    ensures { (work : List Record) × FnOnceReturnsAtMut F.FnOnce call (replicate count before) result.answer work
+        × (result.zero ≡ count_of 0 work) × (result.same ≡ count_of 1 work) }
+{
+    let mut work = [record_before(); 5000];
+    let lent = &mut work[..count];
+    let answer = call(lent);
+    counted(answer, lent)
+}
+
+// Connects two sheets with so many records lent. They are not lent by `lend_records`: no contract says what a closure leaves in a plan.
+fn connect_lent(
     mode: moves::Mode,
     k: u8,
     old: &[u8],
     new: &[u8],
     count: usize,
     plan: &mut [u8],
-) -> Outcome
+) -> Outcome<connect::Answer>
     requires few { count ≤ 5000 }
     ensures { Gives
         (connect_of blank (mode_of mode) k old.now new.now (replicate count before) plan.old)
         result plan.new }
 {
-    let y = record_before();
-    let mut work = [y; 5000];
-    connect_lent(mode, k, old, new, &mut work[..count], plan)
+    let mut work = [record_before(); 5000];
+    let lent = &mut work[..count];
+    let answer = connect::connect_mode(mode, k, old, new, lent, plan);
+    counted(answer, lent)
 }
 
-// Lends so many records, and prints the line.
-fn print_case(
+// Prints the line of a call that was lent a plan.
+fn print_outcome(
     rt: &impl Print,
-    mode: moves::Mode,
-    k: u8,
-    old: &[u8],
-    new: &[u8],
-    count: usize,
-    plan: &mut [u8],
-) -> io::Result<()>
-    requires { count ≤ 5000 }
-{
-    let outcome = lend_records(mode, k, old, new, count, plan);
-    print_answer(rt, outcome.answer)?;
-    framing::print_figure(rt, digest(plan))?;
-    framing::print_figure(rt, outcome.zero as u64)?;
-    framing::print_last(rt, outcome.same as u64)
+    outcome: Outcome<connect::Answer>,
+    plan: &[u8],
+) -> io::Result<()> {
+    let Outcome { answer, zero, same } = outcome;
+    print!(rt;
+        "{} {} {} {} ",
+        answer.number, answer.sheet, answer.state, answer.offset
+    )?;
+    print!(rt;
+        "{} {} {} {} ",
+        answer.situations, answer.states, answer.rounds, answer.length
+    )?;
+    println!(rt; "{} {zero} {same}", digest(plan))
 }
 
-// What the plan holds before the call: every byte is EE hex.
-fn plan_before() -> [u8; 65535]
-    ensures { 65535 ≡ length result }
-{
-    [0xEE; 65535]
-}
-
-// Lends so many records and so many plan bytes.
-fn lend(
-    rt: &impl Print,
-    mode: moves::Mode,
-    k: u8,
-    old: &[u8],
-    new: &[u8],
-    count: usize,
-    room: usize,
-) -> io::Result<()>
-    requires { (count ≤ 5000) × (room ≤ 65535) }
-{
-    let mut plan = plan_before();
-    print_case(rt, mode, k, old, new, count, &mut plan[..room])
-}
-
-// Prints the line of a case.
+// Prints the line of a case. Before the call every byte of the lent plan is EE hex.
 pub fn answer(rt: &impl Print, case: &[u8]) -> io::Result<()> {
-    if case.len() < 8 {
+    if case.len() < 6 {
         return Ok(());
     }
     let count = little_endian::word_at(case, 0) as usize;
@@ -168,8 +130,13 @@ pub fn answer(rt: &impl Print, case: &[u8]) -> io::Result<()> {
     }
     let room = little_endian::word_at(case, 2) as usize;
     let mode = moves::mode_of(case[4]);
-    let end = framing::part_end(case, 6);
-    lend(rt, mode, case[5], &case[8..end], &case[end..], count, room)
+    let Some((old, new)) = framing::split_part(&case[6..]) else {
+        return Ok(());
+    };
+    let mut plan = [0xEE; 65535];
+    let plan = &mut plan[..room];
+    let outcome = connect_lent(mode, case[5], old, new, count, plan);
+    print_outcome(rt, outcome, plan)
 }
 
 // Prints the line of a case of a plan.

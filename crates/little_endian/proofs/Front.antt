@@ -45,15 +45,9 @@ front-then at xs ys v w zs y a h e =
     rest-is at ys w zs (omega arith) e ∙ ap₂ (λ (p q : List ℕ). (p ++ w) ++ q) t (drop_more at (length w) ys xs d)
     ∙ ap (λ (j : ℕ). (v ++ w) ++ drop j xs) k
 
--- ---- single bytes
+-- ---- a single byte
 
 pub put_one : (xs : List ℕ) (a : ℕ) → 1 ≤ length xs → set xs 0 a ≡ front (a ∷ []) xs
 unfolding front
 put_one [] a h = absurd (omega arith)
 put_one (x ∷ xs) a h = refl
-
-pub put_two : (xs : List ℕ) (a b : ℕ) → 2 ≤ length xs → set (set xs 0 a) 1 b ≡ front (a ∷ b ∷ []) xs
-unfolding front
-put_two [] a b h = absurd (omega arith)
-put_two (x ∷ []) a b h = absurd (omega arith)
-put_two (x ∷ y ∷ xs) a b h = refl

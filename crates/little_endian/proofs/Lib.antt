@@ -1,4 +1,3 @@
 pub mod Front
 pub mod OneByOne
 pub mod Writing
-pub mod Halves

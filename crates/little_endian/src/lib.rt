@@ -11,7 +11,7 @@ pub fn word_at(b: &[u8], i: usize) -> u16
     requires within { i + 2 ≤ length b.now }
     ensures { result ≡ word b.now i }
 {
-    b[i] as u16 + 256 * (b[i + 1] as u16)
+    u16::from_le_bytes([b[i], b[i + 1]])
 }
 
 // The 32-bit number at a place.
@@ -19,7 +19,7 @@ pub fn dword_at(b: &[u8], i: usize) -> u32
     requires within { i + 4 ≤ length b.now }
     ensures { result ≡ dword b.now i }
 {
-    word_at(b, i) as u32 + 65536 * (word_at(b, i + 2) as u32)
+    u32::from_le_bytes([b[i], b[i + 1], b[i + 2], b[i + 3]])
 }
 
 // A byte.
@@ -35,8 +35,7 @@ pub fn put_word(out: &mut [u8], x: u16)
     requires room { 2 ≤ length out.old }
     ensures { out.new ≡ front (le16 x) out.old }
 {
-    out[0] = (x % 256) as u8;
-    out[1] = (x / 256 % 256) as u8;
+    out[..2].copy_from_slice(&x.to_le_bytes());
 }
 
 // A 32-bit number.
@@ -44,6 +43,5 @@ pub fn put_dword(out: &mut [u8], x: u32)
     requires room { 4 ≤ length out.old }
     ensures { out.new ≡ front (le32 x) out.old }
 {
-    put_word(out, (x % 65536) as u16);
-    put_word(&mut out[2..], (x / 65536) as u16);
+    out[..4].copy_from_slice(&x.to_le_bytes());
 }

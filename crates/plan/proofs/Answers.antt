@@ -1,19 +1,11 @@
 -- Answers of yes and no, and results that may be missing: whether there is one, and what follows if there is.
 -- Assumes nothing.
-use mathlib.Core.Path.{◌≡◌, refl, sym, ◌∙◌}
-use mathlib.Core.Bool.{Bool, true, false, not, cond, ◌&&◌}
+use mathlib.Core.Path.{◌≡◌, refl}
+use mathlib.Core.Bool.{Bool, true, false, cond, ◌&&◌}
 use mathlib.Core.Option.{Option, none, some, map}
 use Prim.Native.Nat.{ℕ}
 use native.Mathlib.Omega.{arith}
-use borrow.Author.Tests.{not-true, not-false}
 use Rattle.plan.specs.Layout.{is_some}
-
--- a test that was made through `not`
-pub passed : {r g : Bool} → r ≡ g → not r ≡ false → g ≡ true
-passed e h = sym e ∙ not-false _ h
-
-pub failed : {r g : Bool} → r ≡ g → not r ≡ true → g ≡ false
-failed e h = sym e ∙ not-true _ h
 
 pub is_some_cond : {A : Type 0} (t : Bool) (o : Option A) → is_some (cond t o none) ≡ (t && is_some o)
 unfolding is_some

@@ -4,9 +4,10 @@ use mathlib.Core.Path.{◌≡◌, refl, sym, ap, ◌∙◌}
 use mathlib.Core.Bool.{Bool, true, false, ◌&&◌, and_assoc, and-false}
 use mathlib.Core.List.{List, [], ◌∷◌}
 use mathlib.Core.Option.{some, none}
-use Prim.Native.Nat.{ℕ, zero, suc, ◌+◌, ◌-◌, ◌<◌, ◌≤◌}
+use Prim.Native.Nat.{ℕ, zero, suc, ◌+◌, ◌-◌, ◌*◌, ◌<◌, ◌≤◌}
+use native.Mathlib.Nat.{add-zero, sub-zero}
 use native.Mathlib.Omega.{arith}
-use native.Mathlib.Numerals.{add-one, unary_clauses}
+use native.Mathlib.Numerals.{add-one}
 use lib.ListN.{length}
 use lib.Dec.{ltb, leb, leb-zero}
 use borrow.Author.Tests.{le-leb, lt-leb, eq-eqb, ne_eqb}
@@ -19,6 +20,25 @@ pub length-read : (b : List ℕ) (i left : ℕ) → length (read_moves b i left)
 unfolding read_moves
 length-read b i zero = refl
 length-read b i (suc left) = ap suc (length-read b (i + 3) left)
+
+-- the moves of a row from the i-th on, where all of them stand from `first` on, `size` of them
+module _ (b : List ℕ) (first size : ℕ) where
+  abbrev pub moves_from : ℕ → List Move
+  moves_from i = read_moves b (first + 3 * i) (size - i)
+
+  pub moves-all : read_moves b first size ≡ moves_from 0
+  moves-all = rw (add-zero, sub-zero) refl
+
+  pub moves-on : (i : ℕ) → i < size → moves_from i ≡ move_at b (first + 3 * i) ∷ moves_from (i + 1)
+  unfolding read_moves move_at
+  moves-on i h =
+      let one : size - i ≡ suc (size - (i + 1)) = omega arith in
+      let on : first + 3 * i + 3 ≡ first + 3 * (i + 1) = omega arith in
+      rw (one, ← on) refl
+
+  pub moves-end : (i : ℕ) → size ≤ i → moves_from i ≡ []
+  unfolding read_moves
+  moves-end i h = let none-left : size - i ≡ 0 = omega arith in rw none-left refl
 
 regroup : (a g s t u : Bool) → (a && (g && (s && (t && u)))) ≡ (a && (s && t && (g && u)))
 regroup false g s t u = refl
@@ -55,43 +75,39 @@ module _ (n count : ℕ) where
     unfolding good_row good_move
     good-short size h = simp (length-read b i size, le-leb _ _ h) (good-is (read_moves b i size))
 
-    pub good_none : (low left : ℕ) → left ≤ 0 → good_from low (read_moves b i left) ≡ true
-    unfolding good_from read_moves
-    good_none low zero h = refl
-    good_none low (suc left) h = absurd (omega arith)
+  -- move by move: the moves from the i-th on
+  module _ (b : List ℕ) (first size : ℕ) where
+    pub good_none : (low i : ℕ) → size ≤ i → good_from low (moves_from b first size i) ≡ true
+    unfolding good_from
+    good_none low i h = rw (moves-end b first size i h)
 
-    pub good-low : (low left : ℕ) → 0 < left → byte b i < low → good_from low (read_moves b i left) ≡ false
-    unfolding good_from read_moves
-    good-low low zero h l = absurd (omega arith)
-    good-low low (suc left) h l = simp (lt-leb _ _ l)
+    pub good-low : (low i : ℕ) → i < size → byte b (first + 3 * i) < low → good_from low (moves_from b first size i) ≡ false
+    unfolding good_from move_at
+    good-low low i h l = rw (moves-on b first size i h) (simp (lt-leb _ _ l))
 
-    pub good-bad : (low left : ℕ) → 0 < left → low ≤ byte b i → good_move n count (move_at b i) ≡ false
-        → good_from low (read_moves b i left) ≡ false
-    unfolding good_from read_moves move_at
-    good-bad low zero h l g = absurd (omega arith)
-    good-bad low (suc left) h l g = simp (le-leb _ _ l, g)
+    pub good-bad : (low i : ℕ) → i < size → low ≤ byte b (first + 3 * i) → good_move n count (move_at b (first + 3 * i)) ≡ false
+        → good_from low (moves_from b first size i) ≡ false
+    unfolding good_from move_at
+    good-bad low i h l g = rw (moves-on b first size i h) (simp (le-leb _ _ l, g))
 
-    pub good_more : (low left : ℕ) → 0 < left → low ≤ byte b i → good_move n count (move_at b i) ≡ true
-        → good_from low (read_moves b i left) ≡ good_from (byte b i + 1) (read_moves b (i + 3) (left - 1))
-    unfolding good_from read_moves move_at
-    good_more low zero h l g = absurd (omega arith)
-    good_more low (suc left) h l g = rw (add-one (byte b i)) (simp (le-leb _ _ l, g) (simp unary_clauses))
+    pub good_more : (low i : ℕ) → i < size → low ≤ byte b (first + 3 * i) → good_move n count (move_at b (first + 3 * i)) ≡ true
+        → good_from low (moves_from b first size i) ≡ good_from (byte b (first + 3 * i) + 1) (moves_from b first size (i + 1))
+    unfolding good_from move_at
+    good_more low i h l g = rw (moves-on b first size i h, add-one (byte b (first + 3 * i))) (simp (le-leb _ _ l, g))
 
 -- ---- the move with a code
 
-module _ (b : List ℕ) (i code : ℕ) where
-  pub held_none : (left : ℕ) → left ≤ 0 → held (read_moves b i left) code ≡ none
-  unfolding held read_moves
-  held_none zero h = refl
-  held_none (suc left) h = absurd (omega arith)
+module _ (b : List ℕ) (first size code : ℕ) where
+  pub held_none : (i : ℕ) → size ≤ i → held (moves_from b first size i) code ≡ none
+  unfolding held
+  held_none i h = rw (moves-end b first size i h)
 
-  pub held-here : (left : ℕ) → 0 < left → byte b i ≡ code → held (read_moves b i left) code ≡ some (word b (i + 1))
-  unfolding held read_moves
-  held-here zero h e = absurd (omega arith)
-  held-here (suc left) h e = simp (eq-eqb _ _ e)
+  pub held-here : (i : ℕ) → i < size → byte b (first + 3 * i) ≡ code
+      → held (moves_from b first size i) code ≡ some (word b (first + 3 * i + 1))
+  unfolding held move_at
+  held-here i h e = rw (moves-on b first size i h) (simp (eq-eqb _ _ e))
 
-  pub held_more : (left : ℕ) → 0 < left → (byte b i ≡ code → ⊥)
-      → held (read_moves b i left) code ≡ held (read_moves b (i + 3) (left - 1)) code
-  unfolding held read_moves
-  held_more zero h e = absurd (omega arith)
-  held_more (suc left) h e = simp (ne_eqb _ _ e) (simp unary_clauses)
+  pub held_more : (i : ℕ) → i < size → (byte b (first + 3 * i) ≡ code → ⊥)
+      → held (moves_from b first size i) code ≡ held (moves_from b first size (i + 1)) code
+  unfolding held move_at
+  held_more i h e = rw (moves-on b first size i h) (simp (ne_eqb _ _ e))

@@ -6,14 +6,22 @@ pub mod write;
 
 ghost use Rattle.std.specs.Prelude.{◌≡◌, true, ◌+◌, ◌*◌, ◌≤◌, ◌<◌, length};
 ghost use Rattle.std.proofs.Math.Option.{some};
-ghost use Rattle.model.specs.Plan.{held, read_moves, read_plan, rows_in, row_step, step_of};
+ghost use Rattle.model.specs.Plan.{read_plan, rows_in, step_of};
 ghost use Rattle.plan.specs.Layout.{is_some};
 ghost use Rattle.plan.specs.Rows.{RowOf};
-ghost use Rattle.plan.specs.Step.{stepped_of};
+ghost use Rattle.plan.specs.Step.{held_in, told, stepped_of};
 
 use little_endian::{dword_at, word_at};
 
-// The answer of a step: number 0 and the next state, or a refusal's number and 0.
+// Why a step is refused: the bytes are no plan, the number is no state of the plan, or the state's row does not hold the code.
+#[derive(Clone, Copy, Debug, PartialEq, Eq)]
+pub enum Refusal {
+    NoPlan = 14,
+    NoState = 15,
+    NoMove = 16,
+}
+
+// The answer of a step for C: number 0 and the next state, or a refusal's number and 0.
 #[repr(C)]
 #[derive(Clone, Copy)]
 pub struct Stepped {
@@ -21,28 +29,32 @@ pub struct Stepped {
     pub state: u16,
 }
 
-// The step by a code in a row whose moves, size of them, stand from first on.
-fn step_row(plan: &[u8], first: usize, size: usize, code: u8) -> Stepped
-    requires { first + 3 * size ≤ length plan.now }
-    ensures { result ≡ stepped_of (row_step (held (read_moves plan.now first size) code)) }
-{
-    let mut left = size;
-    let mut at = first;
-    while 0 < left {
-        if plan[at] == code {
-            let state = word_at(plan, at + 1);
-            return Stepped {
-                number: 0,
-                state: state,
-            };
+impl From<Result<u16, Refusal>> for Stepped {
+    ghost from_gives = { λ step s. s ≡ stepped_of (told step) };
+
+    fn from(step: Result<u16, Refusal>) -> Stepped {
+        match step {
+            Ok(state) => Stepped { number: 0, state },
+            Err(why) => Stepped {
+                number: why as u8,
+                state: 0,
+            },
         }
-        at = at + 3;
-        left = left - 1;
     }
-    Stepped {
-        number: 16,
-        state: 0,
+}
+
+// The next state of a code in a row whose moves, size of them, stand from first on; none if the row does not hold the code.
+fn step_row(plan: &[u8], first: usize, size: usize, code: u8) -> Option<u16>
+    requires { first + 3 * size ≤ length plan.now }
+    ensures { result ≡ held_in plan.now first size code }
+{
+    for i in 0..size {
+        let at = first + 3 * i;
+        if plan[at] == code {
+            return Some(word_at(plan, at + 1));
+        }
     }
+    None
 }
 
 // Where the moves of a row stand: the first of them, and how many there are.
@@ -84,23 +96,16 @@ pub fn figures_of(plan: &[u8]) -> Figures
     }
 }
 
-// The step by a code from a state of a plan. Bytes that are no plan give 14, a number that is no state of the plan
-// gives 15, a code that the state's row does not hold 16.
-pub fn step(plan: &[u8], state: u16, code: u8) -> Stepped
-    ensures { result ≡ stepped_of (step_of plan.now state code) }
+// The step by a code from a state of a plan: the next state, or why there is none.
+pub fn step(plan: &[u8], state: u16, code: u8) -> Result<u16, Refusal>
+    ensures { told result ≡ step_of plan.now state code }
 {
-    if read::is_plan(plan) {
-        if word_at(plan, plan.len() - 4) <= state {
-            return Stepped {
-                number: 15,
-                state: 0,
-            };
-        }
-        let row = row_of(plan, state);
-        return step_row(plan, row.first, row.size, code);
+    if !read::is_plan(plan) {
+        return Err(Refusal::NoPlan);
     }
-    Stepped {
-        number: 14,
-        state: 0,
+    if word_at(plan, plan.len() - 4) <= state {
+        return Err(Refusal::NoState);
     }
+    let row = row_of(plan, state);
+    step_row(plan, row.first, row.size, code).ok_or(Refusal::NoMove)
 }

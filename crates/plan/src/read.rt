@@ -36,10 +36,7 @@ pub fn good_move(plan: &[u8], at: usize, n: u8, count: u16) -> bool
     requires { at + 3 ≤ length plan.now }
     ensures { result ≡ good_move n count (move_at plan.now at) }
 {
-    if named_below(plan[at], n) {
-        return word_at(plan, at + 1) < count;
-    }
-    false
+    named_below(plan[at], n) && word_at(plan, at + 1) < count
 }
 
 // Whether the size moves from first on are a row of such a plan.
@@ -50,10 +47,9 @@ pub fn good_row(plan: &[u8], first: usize, size: usize, n: u8, count: u16) -> bo
     if MOVES < size {
         return false;
     }
-    let mut left = size;
-    let mut at = first;
-    let mut low: usize = 0;
-    while 0 < left {
+    let mut low = 0;
+    for i in 0..size {
+        let at = first + 3 * i;
         let code = plan[at] as usize;
         if code < low {
             return false;
@@ -62,8 +58,6 @@ pub fn good_row(plan: &[u8], first: usize, size: usize, n: u8, count: u16) -> bo
             return false;
         }
         low = code + 1;
-        at = at + 3;
-        left = left - 1;
     }
     true
 }
@@ -92,15 +86,12 @@ pub fn good_rows(plan: &[u8], index: usize, count: u16, n: u8) -> bool
     requires { index + 4 * count ≤ length plan.now }
     ensures { result ≡ is_some (read_rows plan.now index count n count 0 0) }
 {
-    let rows = count as usize;
-    let mut p: usize = 0;
-    let mut i: usize = 0;
-    while p < rows {
+    let mut i = 0;
+    for p in 0..count as usize {
         if !good_place(plan, index, count, n, p, i) {
             return false;
         }
         i = i + 1 + 3 * (plan[i] as usize);
-        p = p + 1;
     }
     i == index
 }
@@ -109,16 +100,7 @@ pub fn good_rows(plan: &[u8], index: usize, count: u16, n: u8) -> bool
 pub fn figures_in_range(count: u16, n: u8, k: u8) -> bool
     ensures { result ≡ figures_in_range count n k }
 {
-    if count < 1 {
-        return false;
-    }
-    if STATES < count {
-        return false;
-    }
-    if 7 < n {
-        return false;
-    }
-    k <= 3
+    1 <= count && count <= STATES && n <= 7 && k <= 3
 }
 
 // Whether bytes have the plan layout.
@@ -132,10 +114,8 @@ pub fn is_plan(plan: &[u8]) -> bool
     let index = dword_at(plan, end - 8) as usize;
     let count = word_at(plan, end - 4);
     let n = plan[end - 2];
-    if figures_in_range(count, n, plan[end - 1]) {
-        if index + 4 * (count as usize) + 8 == end {
-            return good_rows(plan, index, count, n);
-        }
+    if !figures_in_range(count, n, plan[end - 1]) {
+        return false;
     }
-    false
+    index + 4 * (count as usize) + 8 == end && good_rows(plan, index, count, n)
 }

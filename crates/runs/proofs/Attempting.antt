@@ -9,13 +9,18 @@ use native.Mathlib.Omega.{arith}
 use lib.ListN.{length, get_or, get_or-eq_default}
 use lib.Dec.{ltb}
 use borrow.Author.Tests.{ltb-false}
+use Rattle.std.specs.Prelude.{Result, Ok, Err}
+use Rattle.model.specs.Bytes.{byte, word}
 use Rattle.model.specs.Contract.{Contract, state}
 use Rattle.model.specs.Situation.{Kind, straight, client, service, stray, kind_of}
 use Rattle.model.specs.Test.{listed}
+use Rattle.model.specs.Plan as model
 use Rattle.model.specs.Plan.{Plan, Move, held, read_plan, rows_of, rows_in, row_step, step_in, step_of}
 use Rattle.model.specs.Run.{Run, Attempt, need, row_at_run, choice, move_to, moved, moved_if, attempted}
-use Rattle.plan.specs.Step.{stepped_of}
-use Rattle.plan.specs.declared.Stepped.{Stepped}
+use Rattle.runs.specs.Runs.{attempt_of}
+use Rattle.plan.specs.Step.{number_of, told}
+use Rattle.plan.specs.declared.Refusal.{Refusal}
+use Rattle.plan.specs.declared.Refusal.TheVariants.{NoPlan, NoState, NoMove}
 
 -- ---- a choice
 
@@ -71,6 +76,13 @@ module _ (state code : ℕ) where
       go true e n = row-lacks row n
       go false e n = ap (λ (l : List Move). held l code) (get_or-eq_default p.rows [] (ltb-false state (length p.rows) e))
 
+-- a refusal's number is not 0
+refused : (why : Refusal) → number_of why ≡ 0 → ⊥
+unfolding number_of
+refused NoPlan e = omega arith
+refused NoState e = omega arith
+refused NoMove e = omega arith
+
 -- ---- an attempt
 
 cond-alike : {A : Type 0} (t : Bool) (x : A) → cond t x x ≡ x
@@ -85,6 +97,11 @@ moved-alike user new rows run (straight j) to = refl
 moved-alike user new rows run (client j) to = refl
 moved-alike user new rows run (service j) to = refl
 moved-alike user new rows run stray to = refl
+
+-- its five bytes as they are read
+pub attempt-read : (b : List ℕ) {R S : ℕ} → R ≡ word b 0 → S ≡ word b 2 → record { R = R; S = S; code = byte b 4 } ≡ attempt_of b
+unfolding attempt_of
+attempt-read b r s = rw (r, s) refl
 
 module _ (user new : Contract) (plan : List ℕ) (run : Run) (R S code : ℕ) where
   abbrev attempt : Attempt
@@ -109,28 +126,24 @@ module _ (user new : Contract) (plan : List ℕ) (run : Run) (R S code : ℕ) wh
   unfolding moved_if
   attempt-unmet e t f u = sym (outcome (sym t ∙ e) (sym u ∙ f) refl)
 
-  module _ {stepped : Stepped} (answer : stepped ≡ stepped_of (step_of plan run.plan code)) where
-    number_is : stepped.number ≡ (step_of plan run.plan code).number
-    unfolding stepped_of
-    number_is = ap (λ (s : Stepped). s.number) answer
-
-    state-is : (step_of plan run.plan code).state ≡ stepped.state
-    unfolding stepped_of
-    state-is = sym (ap (λ (s : Stepped). s.state) answer)
-
+  module _ {step : Result ℕ Refusal} (answer : told step ≡ step_of plan run.plan code) where
     -- stepping refuses
-    pub attempt-refused : (stepped.number ≡ 0 → ⊥) → run ≡ attempted user new (rows_in plan) run attempt
-    unfolding step_of rows_in moved_if
-    attempt-refused other =
-        let lacks = plan-lacks run.plan code (read_plan plan) (λ e. other (number_is ∙ e)) in
+    pub attempt-refused : {why : Refusal} → step ≡ Err why → run ≡ attempted user new (rows_in plan) run attempt
+    unfolding step_of rows_in moved_if told
+    attempt-refused {why} e =
+        let number : number_of why ≡ (step_of plan run.plan code).number = ap (λ (s : model.Stepped). s.number) (rw e at answer) in
+        let lacks = plan-lacks run.plan code (read_plan plan) (λ z. refused why (number ∙ z)) in
         let t = choice user new [] run R S && need R S (kind_of code) in
         sym (outcome refl refl lacks ∙ ap (moved_if user new (rows_in plan) run (kind_of code)) (cond-alike t none))
 
     -- a move
-    pub attempt-made : {chosen needed : Bool} {after : Run} → chosen ≡ choice user new [] run R S → chosen ≡ true
-        → needed ≡ need R S (kind_of code) → needed ≡ true → stepped.number ≡ 0
-        → after ≡ moved user new [] run (kind_of code) stepped.state → after ≡ attempted user new (rows_in plan) run attempt
-    unfolding step_of rows_in moved_if
-    attempt-made e t f u zero is =
-        let holds = plan-held run.plan code (read_plan plan) (sym number_is ∙ zero) ∙ ap some state-is in
-        is ∙ moved-alike user new (rows_in plan) run (kind_of code) stepped.state ∙ sym (outcome (sym t ∙ e) (sym u ∙ f) holds)
+    pub attempt-made : {chosen needed : Bool} {after : Run} {to : ℕ} → chosen ≡ choice user new [] run R S → chosen ≡ true
+        → needed ≡ need R S (kind_of code) → needed ≡ true → step ≡ Ok to
+        → after ≡ moved user new [] run (kind_of code) to → after ≡ attempted user new (rows_in plan) run attempt
+    unfolding step_of rows_in moved_if told
+    attempt-made {to = to} e t f u ok is =
+        let same : record { number = 0; state = to } ≡ step_of plan run.plan code = rw ok at answer in
+        let holds =
+        plan-held run.plan code (read_plan plan) (sym (ap (λ (s : model.Stepped). s.number) same))
+        ∙ ap some (sym (ap (λ (s : model.Stepped). s.state) same)) in
+        is ∙ moved-alike user new (rows_in plan) run (kind_of code) to ∙ sym (outcome (sym t ∙ e) (sym u ∙ f) holds)

@@ -74,26 +74,25 @@ module _ {user new : List ℕ} {run : Run} {kind : Kind} (m : MoveReady user new
   abbrev Made : (p q to : ℕ) → Type 0
   Made p q to =
       (record { client = p; service = q; plan = to } ≡ moved (contract_in user) (contract_in new) [] (run_of run) kind to)
-      × IsState user p
-      × IsState new q
+      × (IsState user p × IsState new q)
 
   pub straight-made : {i j p q to : ℕ} → kind ≡ straight j → i ≡ partner j → p ≡ after (state (contract_in user) run.client) i
       → q ≡ after (state (contract_in new) run.service) j → Made p q to
   unfolding moved run_of
-  straight-made e f g h = (rw (e, g, h, f) refl, successor-state (straight-client e f) g, successor-state (straight-service e) h)
+  straight-made e f g h = (rw (e, g, h, f) refl, (successor-state (straight-client e f) g, successor-state (straight-service e) h))
 
   pub client-made : {i j p to : ℕ} → kind ≡ client j → i ≡ partner j → p ≡ after (state (contract_in user) run.client) i
       → Made p run.service to
   unfolding moved run_of
-  client-made e f g = (rw (e, g, f) refl, successor-state (client-client e f) g, m.service_at)
+  client-made e f g = (rw (e, g, f) refl, (successor-state (client-client e f) g, m.service_at))
 
   pub service-made : {j q to : ℕ} → kind ≡ service j → q ≡ after (state (contract_in new) run.service) j → Made run.client q to
   unfolding moved run_of
-  service-made e h = (rw (e, h) refl, m.client_at, successor-state (service-service e) h)
+  service-made e h = (rw (e, h) refl, (m.client_at, successor-state (service-service e) h))
 
   -- no kind: the run stays as it is
   pub stray-made : (to : ℕ) → kind ≡ stray
-      → (run_of run ≡ moved (contract_in user) (contract_in new) [] (run_of run) kind to) × IsState user run.client
-      × IsState new run.service
+      → (run_of run ≡ moved (contract_in user) (contract_in new) [] (run_of run) kind to)
+      × (IsState user run.client × IsState new run.service)
   unfolding moved
-  stray-made to e = (rw e refl, m.client_at, m.service_at)
+  stray-made to e = (rw e refl, (m.client_at, m.service_at))

@@ -5,7 +5,7 @@
 
 mod standstills;
 
-ghost use Rattle.std.specs.Prelude.{◌≡◌, [], IfOk};
+ghost use Rattle.std.specs.Prelude.{◌≡◌, [], length, IfOk};
 ghost use Rattle.model.specs.Contract.{state};
 ghost use Rattle.model.specs.Sheet.{contract_in};
 ghost use Rattle.model.specs.Situation.{kind_of};
@@ -13,11 +13,19 @@ ghost use Rattle.model.specs.Test.{listed};
 ghost use Rattle.model.specs.Plan.{rows_in};
 ghost use Rattle.model.specs.Run.{need, choice, moved, attempted, run_from};
 ghost use Rattle.sheet.specs.Whole.{IsState};
-ghost use Rattle.runs.specs.Runs.{run_of, MoveReady, attempts_in};
+ghost use Rattle.runs.specs.Runs.{client_of, service_of, run_of, InStates, MoveReady, attempt_of, attempts_in};
 
 use crate::standstills::{Standstills, count_standstills};
 use std::io;
 use std::io::Print;
+
+// What a run is over: a client sheet, a service sheet and a plan.
+#[derive(Clone, Copy)]
+struct Parties<'a> {
+    client: &'a [u8],
+    service: &'a [u8],
+    plan: &'a [u8],
+}
 
 // The three states of a run, how many service-alone moves came right before, and the most that came in a row.
 #[derive(Clone, Copy)]
@@ -57,136 +65,96 @@ fn is_ready(b: &[u8], q: u8, mask: u16) -> bool
     false
 }
 
-fn larger(a: u16, b: u16) -> u16 {
-    if a < b { b } else { a }
-}
-
-// One more, up to the largest that there is.
-fn one_more(a: u16) -> u16 {
-    if a < 65535 { a + 1 } else { a }
-}
-
 // The run after a move with a code, by which the plan goes to a state. A party that goes on offers the action.
-fn moved(client: &[u8], service: &[u8], run: Run, code: u8, to: u16) -> Run
-    requires { MoveReady client.now service.now run (kind_of code) }
+fn moved(parties: Parties, run: Run, code: u8, to: u16) -> Run
+    requires { MoveReady parties.client.now parties.service.now run (kind_of code) }
     ensures { (run_of result
-        ≡ moved (contract_in client.now) (contract_in service.now) [] (run_of run) (kind_of code) to)
-        × IsState client.now result.client × IsState service.now result.service }
+        ≡ moved (client_of parties.entry) (service_of parties.entry) [] (run_of run) (kind_of code) to)
+        × InStates parties.entry result }
 {
+    let Parties {
+        client,
+        service,
+        ..
+    } = parties;
     match code {
         0..=13 => Run {
             client: sheet::successor(client, run.client, sheet::partner(code)),
             service: sheet::successor(service, run.service, code),
             plan: to,
             alone: 0,
-            longest: run.longest,
+            ..run
         },
         16..=29 => Run {
             client: sheet::successor(client, run.client, sheet::partner(code - 16)),
-            service: run.service,
             plan: to,
             alone: 0,
-            longest: run.longest,
+            ..run
         },
         32..=45 => {
-            let alone = one_more(run.alone);
+            let alone = run.alone.saturating_add(1);
             Run {
-                client: run.client,
                 service: sheet::successor(service, run.service, code - 32),
                 plan: to,
-                alone: alone,
-                longest: larger(alone, run.longest),
+                alone,
+                longest: run.longest.max(alone),
+                ..run
             }
         }
         _ => run,
     }
 }
 
-fn print_attempt(rt: &impl Print, made: bool, stepped: plan::Stepped) -> io::Result<()> {
-    framing::print_figure(rt, if made { 1 } else { 0 })?;
-    framing::print_figure(rt, stepped.number as u64)?;
-    framing::print_last(rt, stepped.state as u64)
-}
-
 // Whether R and S are a choice: ready sets of the present client and service states.
-fn is_choice(client: &[u8], service: &[u8], run: Run, R: u16, S: u16) -> bool
-    requires { IsState client.now run.client × IsState service.now run.service }
-    ensures { result ≡ choice (contract_in client.now) (contract_in service.now) [] (run_of run) R S }
+fn is_choice(parties: Parties, run: Run, R: u16, S: u16) -> bool
+    requires { InStates parties run }
+    ensures { result ≡ choice (client_of parties.entry) (service_of parties.entry) [] (run_of run) R S }
 {
-    is_ready(client, run.client, R) && is_ready(service, run.service, S)
+    is_ready(parties.client, run.client, R) && is_ready(parties.service, run.service, S)
 }
 
-// The run after an attempt, whose line is printed.
-fn attempted(
-    rt: &impl Print,
-    client: &[u8],
-    service: &[u8],
-    plan: &[u8],
-    run: Run,
-    R: u16,
-    S: u16,
-    code: u8,
-) -> io::Result<Run>
-    requires { IsState client.now run.client × IsState service.now run.service }
+// The run after an attempt of five bytes, whose line is printed.
+fn attempted(rt: &impl Print, parties: Parties, run: Run, attempt: &[u8]) -> io::Result<Run>
+    requires at { InStates parties run }
+    requires five { length attempt.now ≡ 5 }
     ensures { IfOk result (λ after. (run_of after
-        ≡ attempted (contract_in client.now) (contract_in service.now) (rows_in plan.now) (run_of run)
-        (record { R = R; S = S; code = code }))
-        × IsState client.now after.client × IsState service.now after.service) }
+        ≡ attempted (client_of parties.entry) (service_of parties.entry) (rows_in parties.entry.plan.now) (run_of run)
+        (attempt_of attempt.now))
+        × InStates parties.entry after) }
 {
-    let stepped = plan::step(plan, run.plan, code);
-    let granted = stepped.number == 0;
-    if is_choice(client, service, run, R, S) && granted && need_met(R, S, code) {
-        print_attempt(rt, true, stepped)?;
-        return Ok(moved(client, service, run, code, stepped.state));
+    let R = little_endian::word_at(attempt, 0);
+    let S = little_endian::word_at(attempt, 2);
+    let code = attempt[4];
+    let step = plan::step(parties.plan, run.plan, code);
+    if let Ok(to) = step {
+        if is_choice(parties, run, R, S) && need_met(R, S, code) {
+            println!(rt; "1 0 {to}")?;
+            return Ok(moved(parties, run, code, to));
+        }
     }
-    print_attempt(rt, false, stepped)?;
+    let told = plan::Stepped::from(step);
+    println!(rt; "0 {} {}", told.number, told.state)?;
     Ok(run)
 }
 
 // The run after a list of attempts, whose lines are printed.
-fn followed(
-    rt: &impl Print,
-    client: &[u8],
-    service: &[u8],
-    plan: &[u8],
-    attempts: &[u8],
-    start: Run,
-) -> io::Result<Run>
-    requires { IsState client.now start.client × IsState service.now start.service }
+fn followed(rt: &impl Print, parties: Parties, attempts: &[u8], start: Run) -> io::Result<Run>
+    requires { InStates parties start }
     ensures { IfOk result (λ after. (run_of after
-        ≡ run_from (contract_in client.now) (contract_in service.now) (rows_in plan.now) (run_of start)
+        ≡ run_from (client_of parties.entry) (service_of parties.entry) (rows_in parties.entry.plan.now) (run_of start)
         (attempts_in attempts.now))
-        × IsState client.now after.client × IsState service.now after.service) }
+        × InStates parties.entry after) }
 {
     let mut run = start;
-    let mut at: usize = 0;
-    while 5 <= attempts.len() - at {
-        let R = little_endian::word_at(attempts, at);
-        let S = little_endian::word_at(attempts, at + 2);
-        run = attempted(rt, client, service, plan, run, R, S, attempts[at + 4])?;
-        at += 5;
+    for attempt in attempts.chunks_exact(5) {
+        run = attempted(rt, parties, run, attempt)?;
     }
     Ok(run)
 }
 
-fn print_end(rt: &impl Print, run: Run, stuck: Standstills) -> io::Result<()> {
-    framing::print_figure(rt, run.client as u64)?;
-    framing::print_figure(rt, run.service as u64)?;
-    framing::print_figure(rt, run.plan as u64)?;
-    framing::print_figure(rt, stuck.all as u64)?;
-    framing::print_figure(rt, stuck.unmarked as u64)?;
-    framing::print_last(rt, run.longest as u64)
-}
-
 // Prints the lines of a run from the start on.
-fn follow_sheets(
-    rt: &impl Print,
-    client: &[u8],
-    service: &[u8],
-    plan: &[u8],
-    attempts: &[u8],
-) -> io::Result<()>
-    requires { IsState client.now 0 × IsState service.now 0 }
+fn follow_sheets(rt: &impl Print, parties: Parties, attempts: &[u8]) -> io::Result<()>
+    requires { IsState parties.client.now 0 × IsState parties.service.now 0 }
 {
     let start = Run {
         client: 0,
@@ -195,53 +163,35 @@ fn follow_sheets(
         alone: 0,
         longest: 0,
     };
-    let run = followed(rt, client, service, plan, attempts, start)?;
-    let stuck = count_standstills(client, run.client, service, run.service, plan, run.plan);
-    print_end(rt, run, stuck)
+    let run = followed(rt, parties, attempts, start)?;
+    let Standstills { all, unmarked } = count_standstills(parties, run);
+    print!(rt; "{} {} {} ", run.client, run.service, run.plan)?;
+    println!(rt; "{all} {unmarked} {}", run.longest)
 }
 
 // The same for any bytes; nothing is printed where they are no client sheet and service sheet.
-fn follow(
-    rt: &impl Print,
-    client: &[u8],
-    service: &[u8],
-    plan: &[u8],
-    attempts: &[u8],
-) -> io::Result<()> {
-    match pair::check_pair(1, 0, client, service) {
+fn follow(rt: &impl Print, parties: Parties, attempts: &[u8]) -> io::Result<()> {
+    match pair::check_pair(1, 0, parties.client, parties.service) {
         pair::Pair::Refused(_, _, _, _) => Ok(()),
-        pair::Pair::Good => follow_sheets(rt, client, service, plan, attempts),
+        pair::Pair::Good => follow_sheets(rt, parties, attempts),
     }
-}
-
-// The same with the plan behind its length, and the attempts behind the plan.
-fn follow_behind_service(
-    rt: &impl Print,
-    client: &[u8],
-    service: &[u8],
-    rest: &[u8],
-) -> io::Result<()> {
-    if rest.len() < 2 {
-        return Ok(());
-    }
-    let end = framing::part_end(rest, 0);
-    follow(rt, client, service, &rest[2..end], &rest[end..])
-}
-
-// The same with the service sheet behind its length too.
-fn follow_behind_client(rt: &impl Print, client: &[u8], rest: &[u8]) -> io::Result<()> {
-    if rest.len() < 2 {
-        return Ok(());
-    }
-    let end = framing::part_end(rest, 0);
-    follow_behind_service(rt, client, &rest[2..end], &rest[end..])
 }
 
 // Prints the lines of a case.
 pub fn answer(rt: &impl Print, case: &[u8]) -> io::Result<()> {
-    if case.len() < 2 {
+    let Some((client, rest)) = framing::split_part(case) else {
         return Ok(());
-    }
-    let end = framing::part_end(case, 0);
-    follow_behind_client(rt, &case[2..end], &case[end..])
+    };
+    let Some((service, rest)) = framing::split_part(rest) else {
+        return Ok(());
+    };
+    let Some((plan, attempts)) = framing::split_part(rest) else {
+        return Ok(());
+    };
+    let parties = Parties {
+        client,
+        service,
+        plan,
+    };
+    follow(rt, parties, attempts)
 }

