@@ -14,6 +14,7 @@ use lib.Dec.{eqb}
 use lib.ListN.{length, get_or, take, set, length-append, length-set, get_or-append}
 use lib.Seq.{append_snoc, take-suc-set, get_or-append_seam}
 use borrow.Author.Tests.{eq-eqb, ne_eqb}
+use Rattle.std.specs.Prelude.{Some, None}
 use Rattle.model.specs.Bytes.{word}
 use Rattle.model.specs.Sheet.{Trailer}
 use Rattle.choosing.specs.Rows.{ChoosingRow, opens, hidden_of, targets_of}
@@ -22,7 +23,6 @@ use Rattle.nodes.specs.Sets.{set_of}
 use Rattle.choosing.specs.Tables.{mask_number}
 use Rattle.choosing.specs.Fault.{fault_from}
 use Rattle.choosing_rows.specs.Answers.{fault_in}
-use Rattle.choosing_rows.specs.declared.RowFault.TheVariants as F
 use Rattle.choosing_rows.specs.Holding.{NoRows, RowPut, Room, RowsHeld, AllRead}
 use Rattle.choosing_rows.proofs.Reading.{part}
 
@@ -100,7 +100,7 @@ one-before front x (some l) = ap some (sym (append_snoc front x l))
 
 module _ {b : List ℕ} {t : Trailer} {hidden masks targets : List ℕ} where
   -- row r is at fault
-  pub all-fault : {r : ℕ} → fault_from b t t.count 0 0 ≡ some r → AllRead b t (F.At r) hidden masks targets
+  pub all-fault : {r : ℕ} → fault_from b t t.count 0 0 ≡ some r → AllRead b t (Some r) hidden masks targets
   unfolding fault_in
   all-fault e = record { answer_is = rw e refl; all = λ d. let z : ◌≡◌ {A = ℕ} 0 1 = cc in absurd (omega arith) }
 
@@ -140,7 +140,7 @@ module _ {b : List ℕ} {t : Trailer} {hidden masks targets : List ℕ} where
           let before : r - 1 ≡ t.count - 1 = omega (arith, v.within) in
           fault-over ∙ rw (ne_eqb at t.index n, e, before) refl
 
-      pub rows_end : at ≡ t.index → AllRead b t F.Nowhere hidden masks targets
+      pub rows_end : at ≡ t.index → AllRead b t None hidden masks targets
       unfolding fault_in rows_from fault_from
       rows_end e =
           let whole = eq-eqb at t.index e in

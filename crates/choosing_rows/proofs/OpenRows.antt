@@ -11,6 +11,7 @@ use native.Mathlib.Nat.{eq-or-lt_of_le}
 use native.Mathlib.Omega.{arith}
 use lib.ListN.{length, get_or, set, length-append, length-set}
 use lib.Seq.{append_snoc, get_or-set_same, get_or-set_other, set-get_or}
+use Rattle.std.specs.Prelude.{Some, None}
 use Rattle.model.specs.Lists.{keep, upto}
 use Rattle.model.specs.Contract.{has, actions}
 use Rattle.model.specs.Sheet.{Trailer}
@@ -20,7 +21,6 @@ use Rattle.choosing.specs.Read.{Part, group_at, groups_from}
 use Rattle.nodes.specs.Sets.{unite_from, set_of}
 use Rattle.choosing_rows.specs.Answers.{ReadInto}
 use Rattle.choosing_rows.specs.Holding.{BlankFrom, action_at, TargetsPut}
-use Rattle.choosing_rows.specs.declared.Row.TheVariants as R
 use Rattle.choosing_rows.proofs.Reading.{part, read_none, read_some}
 use Rattle.choosing_rows.proofs.Offered.{offered_from, place-next, place_same, offered-on, offered-over}
 use Rattle.choosing_rows.proofs.Offered.{targets-front, targets-last, targets-no}
@@ -28,18 +28,18 @@ use Rattle.choosing_rows.proofs.Offered.{targets-front, targets-last, targets-no
 -- ---- one action
 module _ (b : List ℕ) (t : Trailer) (mask j i : ℕ) where
   pub action-none : (targets : List ℕ) (place : ℕ) → has mask j ≡ false → BlankFrom place targets
-      → ReadInto (action_at b t mask j i) (R.Behind i) (λ (l : List ℕ). targets ≡ set targets place (set_of l))
+      → ReadInto (action_at b t mask j i) (Some i) (λ (l : List ℕ). targets ≡ set targets place (set_of l))
   unfolding action_at set_of unite_from
   action-none targets place e blank =
       read_some {a = []} (rw e refl) (sym (ap (set targets place) (sym (blank place (omega arith))) ∙ set-get_or targets place 0))
 
   module _ (e : has mask j ≡ true) where
-    pub action-bad : {Put : List ℕ → Type 0} → group_at b t i ≡ none → ReadInto (action_at b t mask j i) R.Bad Put
+    pub action-bad : {Put : List ℕ → Type 0} → group_at b t i ≡ none → ReadInto (action_at b t mask j i) None Put
     unfolding action_at
     action-bad g = read_none (rw e g)
 
     pub action-rows : (targets : List ℕ) (place : ℕ) {s behind : ℕ} {l : List ℕ} → group_at b t i ≡ some (part l behind) → s ≡ set_of l
-        → ReadInto (action_at b t mask j i) (R.Behind behind) (λ (l : List ℕ). set targets place s ≡ set targets place (set_of l))
+        → ReadInto (action_at b t mask j i) (Some behind) (λ (l : List ℕ). set targets place s ≡ set targets place (set_of l))
     unfolding action_at
     action-rows targets place g d = read_some (rw e g) (ap (set targets place) d)
 

@@ -8,6 +8,8 @@ use Prim.Native.Nat.{ℕ, ◌+◌, ◌*◌, ◌<◌, ◌≤◌}
 use native.Mathlib.Omega.{arith}
 use lib.ListN.{length, set}
 use borrow.Author.Tests.{lt-ltb, le-ltb, le-leb, lt-leb, eq-eqb, ne_eqb}
+use Rattle.std.specs.Prelude as C
+use Rattle.std.specs.Prelude.{Some, None}
 use Rattle.model.specs.Lists.{keep}
 use Rattle.model.specs.Bytes.{byte, word}
 use Rattle.model.specs.Contract.{actions, has}
@@ -18,18 +20,16 @@ use Rattle.nodes.specs.Sets.{unite_from, set_of}
 use Rattle.choosing.specs.Tables.{mask_number}
 use Rattle.choosing_rows.specs.Answers.{ReadInto}
 use Rattle.choosing_rows.specs.Holding.{BlankFrom, TargetsPut, RowPut}
-use Rattle.choosing_rows.specs.declared.Row.{Row}
-use Rattle.choosing_rows.specs.declared.Row.TheVariants as R
 use Rattle.choosing_rows.proofs.Reading.{part, read_none, read_some, read_is, read-map}
 
 module _ (b : List ℕ) (t : Trailer) (i : ℕ) where
   -- ---- a hiding row
-  pub hiding-bad : {Put : ChoosingRow → Type 0} → group_at b t (i + 1) ≡ none → ReadInto (hiding_at b t i) R.Bad Put
+  pub hiding-bad : {Put : ChoosingRow → Type 0} → group_at b t (i + 1) ≡ none → ReadInto (hiding_at b t i) None Put
   unfolding hiding_at
   hiding-bad g = read_none (rw g refl)
 
   pub hiding-rows : (hidden masks : List ℕ) (r : ℕ) {s behind : ℕ} {l : List ℕ} → group_at b t (i + 1) ≡ some (part l behind) → s ≡ set_of l
-      → ReadInto (hiding_at b t i) (R.Behind behind)
+      → ReadInto (hiding_at b t i) (Some behind)
       (λ (x : ChoosingRow). (set hidden r s ≡ set hidden r (set_of (hidden_of x))) × (set masks r 16384 ≡ set masks r (mask_number x)))
   unfolding hiding_at hidden_of mask_number
   hiding-rows hidden masks r {l = l} g d = read_some {a = hides l} (rw g refl) (ap (set hidden r) d, refl)
@@ -48,16 +48,16 @@ module _ (b : List ℕ) (t : Trailer) (i : ℕ) where
           ap (λ (x : Part ChoosingRow). targets_of x.value j) (sym same)
 
   -- ---- an open row
-  pub open-cut : {Put : ChoosingRow → Type 0} → t.index < i + 3 → ReadInto (open_at b t i) R.Bad Put
+  pub open-cut : {Put : ChoosingRow → Type 0} → t.index < i + 3 → ReadInto (open_at b t i) None Put
   unfolding open_at
   open-cut h = read_none (simp (lt-leb (i + 3) t.index h))
 
   module _ (h : i + 3 ≤ t.index) (mask : ℕ) (w : mask ≡ word b (i + 1)) where
-    pub open-stray : {Put : ChoosingRow → Type 0} → stray_bit t.n 0 mask ≡ true → ReadInto (open_at b t i) R.Bad Put
+    pub open-stray : {Put : ChoosingRow → Type 0} → stray_bit t.n 0 mask ≡ true → ReadInto (open_at b t i) None Put
     unfolding open_at
     open-stray s = read_none (simp (le-leb (i + 3) t.index h, rw w at s))
 
-    pub open-groups : stray_bit t.n 0 mask ≡ false → {answer : Row} {r : ℕ} {hidden masks targets targets' : List ℕ}
+    pub open-groups : stray_bit t.n 0 mask ≡ false → {answer : C.Option ℕ} {r : ℕ} {hidden masks targets targets' : List ℕ}
         → ReadInto (groups_from b t (length (keep (has mask) actions)) (i + 3)) answer
         (λ (l : List (List ℕ)). TargetsPut (opens mask l) (14 * r) targets targets')
         → ReadInto (open_at b t i) answer (λ (x : ChoosingRow). RowPut x r hidden masks targets (set hidden r 0) (set masks r mask) targets')
@@ -68,16 +68,16 @@ module _ (b : List ℕ) (t : Trailer) (i : ℕ) where
         (simp (le-leb (i + 3) t.index h, rw w at s) (rw w refl))
 
   -- ---- a row
-  pub row-none : {Put : ChoosingRow → Type 0} → t.index ≤ i → ReadInto (choosing_row_at b t i) R.Bad Put
+  pub row-none : {Put : ChoosingRow → Type 0} → t.index ≤ i → ReadInto (choosing_row_at b t i) None Put
   unfolding choosing_row_at
   row-none h = read_none (simp (le-ltb i t.index h))
 
   module _ (h : i < t.index) where
-    pub row_other : {Put : ChoosingRow → Type 0} → (byte b i ≡ 0 → ⊥) → (byte b i ≡ 1 → ⊥) → ReadInto (choosing_row_at b t i) R.Bad Put
+    pub row_other : {Put : ChoosingRow → Type 0} → (byte b i ≡ 0 → ⊥) → (byte b i ≡ 1 → ⊥) → ReadInto (choosing_row_at b t i) None Put
     unfolding choosing_row_at
     row_other n m = read_none (simp (lt-ltb i t.index h, ne_eqb (byte b i) 0 n, ne_eqb (byte b i) 1 m))
 
-    pub row-hides : byte b i ≡ 0 → {answer : Row} {r : ℕ} {hidden masks hidden' masks' targets : List ℕ} → BlankFrom (14 * r) targets
+    pub row-hides : byte b i ≡ 0 → {answer : C.Option ℕ} {r : ℕ} {hidden masks hidden' masks' targets : List ℕ} → BlankFrom (14 * r) targets
         → ReadInto (hiding_at b t i) answer
         (λ (x : ChoosingRow). (hidden' ≡ set hidden r (set_of (hidden_of x))) × (masks' ≡ set masks r (mask_number x)))
         → ReadInto (choosing_row_at b t i) answer (λ (x : ChoosingRow). RowPut x r hidden masks targets hidden' masks' targets)

@@ -1,13 +1,15 @@
 -- The answers on a trailer and on a whole sheet, case by case: a law for each way in which bytes are a choosing sheet or none.
 -- Assumes nothing.
 use mathlib.Core.Path.{◌≡◌, refl, subst⁻¹}
-use mathlib.Core.Bool.{true, false}
+use mathlib.Core.Bool.{Bool, true, false, not}
 use mathlib.Core.List.{List}
 use Prim.Native.Nat.{ℕ, ◌+◌, ◌*◌, ◌<◌, ◌≤◌}
 use native.Mathlib.Omega.{arith}
 use lib.Dec.{T, eqb, leb}
 use lib.ListN.{length}
 use borrow.Author.Tests.{le-leb, lt-leb, eq-eqb, leb-true, eqb-true}
+use Rattle.std.specs.Prelude as C
+use Rattle.std.specs.Prelude.{Some, None, is_some}
 use Rattle.model.specs.Sheet.{Trailer, trailer, refusal, then, plain}
 use Rattle.model.proofs.Lists.{both_true}
 use Rattle.choosing.specs.Rows.{ChoosingRow, row_in}
@@ -18,8 +20,6 @@ use Rattle.choosing.proofs.Read.{trailer-read}
 use Rattle.choosing.proofs.Fault.{frame_refused, frame-reads, fault-refused}
 use Rattle.choosing_rows.specs.Answers.{fault_in}
 use Rattle.choosing_rows.specs.Holding.{TrailerPlaced, RowsHeld, AllRead, RowsRead}
-use Rattle.choosing_rows.specs.declared.RowFault.{RowFault}
-use Rattle.choosing_rows.specs.declared.RowFault.TheVariants as F
 use Rattle.choosing_rows.proofs.Reading.{fault-at}
 
 -- ---- a trailer
@@ -86,18 +86,18 @@ module _ (b : List ℕ) where
   pub sheet-frame : {hidden masks targets : List ℕ} → framed b ≡ false → RowsRead b false hidden masks targets
   sheet-frame f = no_sheet (frame_refused b f)
 
-  pub fault-frame : framed b ≡ false → F.Nowhere ≡ fault_in (fault_row b)
+  pub fault-frame : framed b ≡ false → None ≡ fault_in (fault_row b)
   unfolding fault_row fault_in
   fault-frame f = rw f refl
 
   -- a sheet whose trailer is t, and the answer on its rows
-  module _ (f : framed b ≡ true) (t : Trailer) (e : t ≡ trailer b) {hidden masks targets : List ℕ} {answer : RowFault}
+  module _ (f : framed b ≡ true) (t : Trailer) (e : t ≡ trailer b) {hidden masks targets : List ℕ} {answer : C.Option ℕ}
       (read : AllRead b t answer hidden masks targets) where
     pub fault-is : answer ≡ fault_in (fault_row b)
     unfolding fault_row
     fault-is = rw f (rw e at read.answer_is)
 
-    pub sheet-whole : answer ≡ F.Nowhere → RowsRead b true hidden masks targets
+    sheet-whole : answer ≡ None → RowsRead b true hidden masks targets
     unfolding or_refused then
     sheet-whole d =
         let all = read.all d in
@@ -106,5 +106,14 @@ module _ (b : List ℕ) where
           no_sheet = λ k. let z : ◌≡◌ {A = ℕ} 0 1 = cc in absurd (omega arith);
         }
 
-    pub sheet-fault : {q : ℕ} → answer ≡ F.At q → RowsRead b false hidden masks targets
+    sheet-fault : {q : ℕ} → answer ≡ Some q → RowsRead b false hidden masks targets
     sheet-fault d = no_sheet (fault-refused b (fault-at fault-is d))
+
+    pub sheet-read : {whole : Bool} → is_some answer ≡ not whole → RowsRead b whole hidden masks targets
+    sheet-read {whole} h = go answer refl whole h
+      where
+        go : (a : C.Option ℕ) → answer ≡ a → (whole : Bool) → is_some a ≡ not whole → RowsRead b whole hidden masks targets
+        go None d true h = sheet-whole d
+        go None d false h = cc
+        go (Some q) d true h = cc
+        go (Some q) d false h = sheet-fault d

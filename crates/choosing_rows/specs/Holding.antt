@@ -1,6 +1,7 @@
 -- What the tables hold while a choosing sheet is read into them.
 -- Assumes nothing.
 use Rattle.std.specs.Prelude.{◌≡◌, Bool, true, false, cond, List, [], map, ℕ, ◌+◌, ◌*◌, ◌≤◌, ◌<◌, length, get_or, take, set}
+use Rattle.std.specs.Prelude as C
 use Rattle.std.proofs.Math.Option.{Option, some}
 use Rattle.model.specs.Contract.{has}
 use Rattle.model.specs.Sheet.{Trailer, good, refusal, plain}
@@ -10,8 +11,6 @@ use Rattle.nodes.specs.Sets.{set_of}
 use Rattle.choosing.specs.Tables.{mask_number, Tabled}
 use Rattle.choosing.specs.Fault.{fault_from}
 use Rattle.choosing_rows.specs.Answers.{fault_in}
-use Rattle.choosing_rows.specs.declared.RowFault.{RowFault}
-use Rattle.choosing_rows.specs.declared.RowFault.TheVariants as F
 
 -- a trailer that passed its tests, over bytes of the right length
 pub record TrailerPlaced (b : List ℕ) (t : Trailer) : Type 0 where
@@ -66,9 +65,9 @@ pub record RowsHeld (rows : List ChoosingRow) (hidden masks targets : List ℕ) 
   pub blank : BlankFrom (14 * length rows) targets
 
 -- the first of the rows of a sheet with this trailer that is at fault; if none is, all of them are in the tables
-pub record AllRead (b : List ℕ) (t : Trailer) (answer : RowFault) (hidden masks targets : List ℕ) : Type 0 where
+pub record AllRead (b : List ℕ) (t : Trailer) (answer : C.Option ℕ) (hidden masks targets : List ℕ) : Type 0 where
   pub answer_is : answer ≡ fault_in (fault_from b t t.count 0 0)
-  pub all : answer ≡ F.Nowhere → (rows : List ChoosingRow) × (rows_from b t t.count 0 0 ≡ some rows) × RowsHeld rows hidden masks targets
+  pub all : answer ≡ C.None → (rows : List ChoosingRow) × (rows_from b t t.count 0 0 ≡ some rows) × RowsHeld rows hidden masks targets
 
 -- whether bytes are a choosing sheet, and then its rows in the tables
 pub record RowsRead (b : List ℕ) (answer : Bool) (hidden masks targets : List ℕ) : Type 0 where

@@ -7,3 +7,4 @@ pub mod Masks
 pub mod Meeting
 pub mod Ranking
 pub mod ReadySets
+pub mod Below

@@ -1,4 +1,2 @@
 pub mod Tables
-pub mod Visiting
-pub mod Rows
 pub mod Converting

@@ -8,13 +8,16 @@ use native.Mathlib.Omega.{arith}
 use lib.ListN.{length, length-append}
 use borrow.Author.Tests.{le-leb, lt-leb}
 use Rattle.model.specs.Bytes.{le16}
-use Rattle.model.specs.Sheet.{good}
+use Rattle.std.specs.Prelude.{Result, Ok, Err, MatchResult}
+use Rattle.model.specs.Sheet.{Refusal, good, plain}
 use Rattle.model.proofs.PlanBytes.{length-16}
 use Rattle.walks.proofs.Rest.{rest_of, with_rest}
 use Rattle.little_endian.specs.Front.{front, Wrote}
 use Rattle.little_endian.proofs.Writing.{wrote_then}
 use Rattle.nodes.specs.SheetBytes.{state_row_bytes, layout_rows, layout_index, layout, sheet_bytes}
-use Rattle.nodes.specs.Answer.{written}
+use Rattle.nodes.specs.Answer.{written, written_as, written_by, refused_as, refusal_of}
+use Rattle.nodes.specs.declared.SheetAnswer.{SheetAnswer}
+use Rattle.nodes.specs.declared.Refusal.TheVariants.{NoRoom}
 use Rattle.nodes.specs.Tables.{Tables, states_in}
 use Rattle.nodes.proofs.Parts.{length-layout}
 use Rattle.nodes.proofs.Tables.{states-length, index-length}
@@ -24,16 +27,15 @@ use Rattle.nodes.proofs.Tables.{states-length, index-length}
 module _ (bytes out : List ℕ) where
   -- there is room for them
   pub written-whole : {out' : List ℕ} {size : ℕ} → length bytes ≤ length out → size ≡ length bytes → out' ≡ front bytes out
-      → record { number = 0; sheet = 0; state = 0; length = size; output = out' } ≡ written out (good bytes)
-  unfolding written
+      → written_as refusal_of (Ok size) out' ≡ written out (good bytes)
+  unfolding written written_as
   written-whole h s f =
       rw (le-leb (length bytes) (length out) h)
       (ap₂ (λ (n : ℕ) (o : List ℕ). record { number = 0; sheet = 0; state = 0; length = n; output = o }) s f)
 
   -- there is none
-  pub written-short : length out < length bytes
-      → record { number = 13; sheet = 0; state = 0; length = 0; output = out } ≡ written out (good bytes)
-  unfolding written
+  pub written-short : length out < length bytes → written_as refusal_of (Err NoRoom) out ≡ written out (good bytes)
+  unfolding written written_as refusal_of plain
   written-short h = rw (lt-leb (length bytes) (length out) h) refl
 
 -- ---- a sheet from the tables
@@ -78,3 +80,13 @@ module _ (t : Tables) (count n : ℕ) where
         let three : Wrote trail 6 (rest_of (size + 2 * count) (with_rest size rowed indexed)) last =
         record { size_is = sym six; in_front = l } in
         (wrote_then both three sheet-whole (omega arith)).in_front
+
+-- ---- answers in a struct
+
+-- what is answered for a length or a refusal says so
+pub answered-as : {E : Type 0} (says : E → Refusal) (made : Result ℕ E) (answer : SheetAnswer) (out : List ℕ)
+    → MatchResult made (λ size. answer ≡ record { number = 0; sheet = 0; state = 0; length = size }) (λ e. answer ≡ refused_as (says e))
+    → written_by answer out ≡ written_as says made out
+unfolding written_by written_as refused_as
+answered-as says (Ok size) answer out is = rw is refl
+answered-as says (Err e) answer out is = rw is refl

@@ -18,3 +18,5 @@ pub mod Tables
 pub mod Answers
 pub mod Answering
 pub mod Blank
+pub mod Numbered
+pub mod Searching

@@ -69,6 +69,10 @@ module _ {whole rest : List ℕ} {at : ℕ} {first out : List ℕ} (on : Writing
         in_front = on.wrote.in_front ∙ ap (λ (b : List ℕ). front b first) done;
       }
 
+  -- the place, said in another way
+  pub writing-at : {at' : ℕ} → at ≡ at' → Writing whole rest at' first out
+  writing-at e = subst (λ (a : ℕ). Writing whole rest a first out) e on
+
   module _ {piece later : List ℕ} (next : Next rest piece later) where
     -- there is room for the next piece in what was lent
     pub piece-fits : at + length piece ≤ length first

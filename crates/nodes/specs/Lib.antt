@@ -6,3 +6,4 @@ pub mod SheetBytes
 pub mod Answer
 pub mod Tables
 pub mod Filled
+pub mod Search

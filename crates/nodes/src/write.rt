@@ -9,17 +9,15 @@ ghost use Rattle.nodes.specs.Tables.{ready_at, state_with, successors_of, state_
 ghost use Rattle.nodes.specs.Tables.{HeldSets, Held};
 
 use little_endian::{put_byte, put_word};
-use sheet::{has_bit, ones_below};
+use sheet::ones_below;
 
 // The union of ready sets, as a mask.
 fn union_of(masks: &[u16]) -> u16
     ensures { result ≡ union_of masks.now }
 {
     let mut union: u16 = 0;
-    let mut i = 0;
-    while i < masks.len() {
-        union = union | masks[i];
-        i = i + 1;
+    for &m in masks {
+        union |= m;
     }
     union
 }
@@ -49,10 +47,8 @@ pub fn rows_length(sizes: &[u8], ready: &[u16], count: u8) -> usize
         (record { sizes = sizes.entry.now; ready = ready.now; next = next }) count))) }
 {
     let mut at: usize = 0;
-    let mut q: u8 = 0;
-    while q < count {
-        at = at + row_length_at(sizes, ready, q);
-        q = q + 1;
+    for q in 0..count {
+        at += row_length_at(sizes, ready, q);
     }
     at
 }
@@ -62,12 +58,8 @@ fn put_masks(masks: &[u16], out: &mut [u8])
     requires { 2 * length masks.now ≤ length out.old }
     ensures { out.new ≡ front (mask_bytes masks.now) out.old }
 {
-    let mut at: usize = 0;
-    let mut i: usize = 0;
-    while i < masks.len() {
-        put_word(&mut out[at..], masks[i]);
-        at = at + 2;
-        i = i + 1;
+    for (i, &m) in masks.iter().enumerate() {
+        put_word(&mut out[2 * i..], m);
     }
 }
 
@@ -89,10 +81,8 @@ fn put_successors(next: &[u8], base: usize, actions: u16, out: &mut [u8]) -> usi
     ensures { Wrote (successors_of next.now base actions) result out.old out.new }
 {
     let mut at: usize = 0;
-    let mut j: u8 = 0;
-    while j < 14 {
-        at = at + put_if(&mut out[at..], has_bit(actions, j), next[base + j as usize]);
-        j = j + 1;
+    for j in 0..14 {
+        at += put_if(&mut out[at..], bits::has(actions, j), next[base + j]);
     }
     at
 }
@@ -131,10 +121,8 @@ pub fn put_rows(sizes: &[u8], ready: &[u16], next: &[u8], count: u8, out: &mut [
         (record { sizes = sizes.entry.now; ready = ready.now; next = next.now }) count)) out.old }
 {
     let mut at: usize = 0;
-    let mut q: u8 = 0;
-    while q < count {
-        at = at + put_row_at(sizes, ready, next, q, &mut out[at..]);
-        q = q + 1;
+    for q in 0..count {
+        at += put_row_at(sizes, ready, next, q, &mut out[at..]);
     }
 }
 
@@ -145,13 +133,9 @@ pub fn put_index(sizes: &[u8], ready: &[u16], count: u8, out: &mut [u8])
         (record { sizes = sizes.entry.now; ready = ready.now; next = next }) count)) out.old }
 {
     let mut row: usize = 0;
-    let mut at: usize = 0;
-    let mut q: u8 = 0;
-    while q < count {
-        put_word(&mut out[at..], row as u16);
-        row = row + row_length_at(sizes, ready, q);
-        at = at + 2;
-        q = q + 1;
+    for q in 0..count {
+        put_word(&mut out[2 * (q as usize)..], row as u16);
+        row += row_length_at(sizes, ready, q);
     }
 }
 

@@ -1,5 +1,5 @@
 -- `nodes::write::put_index` meets its contract. The invariant, whatever the successors are: all but the entries from state q on are
--- written, up to the place `at`, and the row of state q is at `row`.
+-- written, up to place 2·q, and the row of state q is at `row`.
 -- Assumes nothing.
 use mathlib.Core.Path.{refl}
 use mathlib.Core.List.{List, []}
@@ -8,7 +8,7 @@ use native.Mathlib.Omega.{arith}
 use Rattle.model.proofs.PlanBytes.{length-16}
 use Rattle.nodes.specs.Tables.{Tables}
 use Rattle.nodes.proofs.Writing.{writing-begun, writing-length, writing-room, writing-ends}
-use Rattle.nodes.proofs.Writing.{wrote-word, piece-fits, piece-room, writing_more}
+use Rattle.nodes.proofs.Writing.{wrote-word, piece-room, writing_more, writing-at}
 use Rattle.nodes.proofs.Tables.{index-all, index-more, index-end, index-length, held-short, held-upto}
 use Rattle.nodes.proofs.write.put_index.Goals as goal
 
@@ -17,7 +17,6 @@ loop-q-init c =
     let a = c.args in
     let tables : List ℕ → Tables = λ next. record { sizes = a.sizes.now; ready = a.ready.now; next = next } in (
       λ next. writing-begun (index-all (tables next) a.count) (omega (arith, index-length (tables next) a.count, c.requires.1)),
-      omega arith,
       omega arith,
     )
 
@@ -51,14 +50,6 @@ overflow_add-row c =
     let l = c.loop-q in
     omega (arith, l.invariant.1, held.few, c.row_length_at-row.ensures, held-short held l.q (omega arith))
 
-pub overflow_add-at : goal.overflow_add-at
-overflow_add-at c =
-    let a = c.args in
-    let tables : List ℕ → Tables = λ next. record { sizes = a.sizes.now; ready = a.ready.now; next = next } in
-    let l = c.loop-q in
-    let entry = index-more (tables []) a.count l.row l.q (omega arith) refl in
-    omega (arith, piece-fits (l.invariant.0 []) entry, length-16 l.row)
-
 pub loop-q-preserved : goal.loop-q-preserved
 loop-q-preserved c =
     let a = c.args in
@@ -66,10 +57,11 @@ loop-q-preserved c =
     let l = c.loop-q in
     let size = c.row_length_at-row.ensures in (
       λ next.
-          writing_more (l.invariant.0 next) (index-more (tables next) a.count l.row l.q (omega arith) size)
-          (wrote-word l.row c.put_word.ensures),
+          writing-at
+          (writing_more (l.invariant.0 next) (index-more (tables next) a.count l.row l.q (omega arith) size)
+          (wrote-word l.row c.put_word.ensures))
+          (omega arith),
       omega (arith, l.invariant.1, size, held-short c.requires.0 l.q (omega arith)),
-      omega arith,
     )
 
 pub shape_of-out : goal.shape_of-out

@@ -13,7 +13,6 @@ loop-q-init c =
     let a = c.args in (
       λ next. omega (arith, ap length (rows_all (record { sizes = a.sizes.now; ready = a.ready.now; next = next }) a.count)),
       omega arith,
-      omega arith,
     )
 
 pub row_length_at-at-requires : goal.row_length_at-at-requires
@@ -34,7 +33,6 @@ loop-q-preserved c =
           let t : Tables = record { sizes = a.sizes.now; ready = a.ready.now; next = next } in
           omega (arith, l.invariant.0 next, size, rows-length-more t a.count l.q (omega arith)),
       omega (arith, l.invariant.1, size, held-short c.requires l.q (omega arith)),
-      omega arith,
     )
 
 pub returns : goal.returns

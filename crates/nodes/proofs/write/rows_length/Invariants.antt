@@ -3,7 +3,7 @@
 -- Assumes nothing.
 use mathlib.Core.Path.{◌≡◌}
 use mathlib.Core.List.{List}
-use Prim.Native.Nat.{ℕ, ◌+◌, ◌-◌, ◌*◌, ◌≤◌}
+use Prim.Native.Nat.{ℕ, ◌+◌, ◌*◌, ◌≤◌}
 use lib.ListN.{length}
 use Rattle.nodes.specs.SheetBytes.{state_row_bytes, layout_rows}
 use Rattle.nodes.specs.Tables.{states_in}
@@ -13,7 +13,4 @@ use Rattle.nodes.proofs.write.rows_length.Given as goal
 abbrev pub invariant-loop-q : goal.invariant-loop-q
 invariant-loop-q l =
     ((next : List ℕ) → length (layout_rows state_row_bytes (states_in (record { sizes = l.sizes; ready = l.ready; next = next }) l.count))
-    ≡ l.at + length (rows_from (record { sizes = l.sizes; ready = l.ready; next = next }) l.count l.q)) × (l.at ≤ 31 * l.q) × (l.q ≤ l.count)
-
-abbrev pub decreases-loop-q : goal.decreases-loop-q
-decreases-loop-q l = l.count - l.q
+    ≡ l.at + length (rows_from (record { sizes = l.sizes; ready = l.ready; next = next }) l.count l.q)) × (l.at ≤ 31 * l.q)

@@ -1,4 +1,4 @@
--- `nodes::write::union_of` meets its contract. The invariant: the union so far, with the masks from i on, is that of all.
+-- `nodes::write::union_of` meets its contract. The invariant: the union so far, with the masks that are left, is that of all.
 -- Assumes nothing.
 use mathlib.Core.Path.{refl, sym, ◌∙◌}
 use native.Mathlib.Omega.{arith}
@@ -6,16 +6,16 @@ use Rattle.sheet.specs.Union.{union_of}
 use Rattle.sheet.proofs.Union.{union-none, union_more}
 use Rattle.nodes.proofs.write.union_of.Goals as goal
 
-pub loop-i-init : goal.loop-i-init
+pub loop-m-init : goal.loop-m-init
 unfolding union_of
-loop-i-init c = (refl, omega arith)
+loop-m-init c = refl
 
-pub loop-i-preserved : goal.loop-i-preserved
-loop-i-preserved c =
-    let l = c.loop-i in
-    (l.invariant.0 ∙ union_more _ l.i l.union _ refl (omega arith), omega arith)
+pub loop-m-preserved : goal.loop-m-preserved
+loop-m-preserved c =
+    let l = c.loop-m in
+    l.invariant ∙ union_more _ l.m-index l.union _ refl (omega arith)
 
 pub returns : goal.returns
 returns c =
-    let l = c.loop-i in
-    sym (l.invariant.0 ∙ union-none _ l.i l.union (omega arith))
+    let l = c.loop-m in
+    sym (l.invariant ∙ union-none _ l.m-index l.union (omega arith))
