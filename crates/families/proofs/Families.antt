@@ -16,7 +16,6 @@ use Rattle.model.specs.Contract.{has}
 use Rattle.model.proofs.Bits.{has-or}
 use Rattle.model.proofs.Masks.{has-none, has-zero, has-suc, has_more}
 use Rattle.families.specs.Families.{in_family}
-use Rattle.families.proofs.Replacing.{Replaced}
 
 -- a mask by its number and its place there
 pub in-number : (l : List ℕ) (i p m : ℕ) → p < 64 → m ≡ 64 * i + p → in_family l m ≡ has (get_or l i 0) p
@@ -33,22 +32,22 @@ one_has : (p : ℕ) → has 1 p ≡ eqb p 0
 one_has zero = has-zero 1
 one_has (suc p) = has-suc 1 p ∙ has-none p ∙ sym (ne_eqb (suc p) 0 (λ e. omega arith))
 
-pub empty-only : {l : List ℕ} {now : List ℕ} {w : ℕ} → length l ≡ 256 → Replaced (λ _ (x : ℕ). x ≡ 0) l w now → w ≤ 0
+pub empty-only : (now : List ℕ) → length now ≡ 256 → ((i : ℕ) → i < 256 → get_or now i 0 ≡ 0)
     → (length (set now 0 1) ≡ 256) × ((m : ℕ) → m < 16384 → in_family (set now 0 1) m ≡ eqb m 0)
 unfolding in_family
-empty-only {l} {now} {w} long r end = (
-  length-set now 0 1 ∙ r.room ∙ long,
+empty-only now long none = (
+  length-set now 0 1 ∙ long,
   λ m h. ⊎_elim (first m) (λ (k : 0 < m / 64). later m h k) (eq-or-lt_of_le (omega arith)),
 )
   where
     first : (m : ℕ) → 0 ≡ m / 64 → has (get_or (set now 0 1) (m / 64) 0) (m % 64) ≡ eqb m 0
     first m e =
         let small : m % 64 ≡ m = omega arith in
-        rw (← e, small, get_or-set_same now 0 1 0 (omega (arith, r.room))) (one_has m)
+        rw (← e, small, get_or-set_same now 0 1 0 (omega arith)) (one_has m)
 
     later : (m : ℕ) → m < 16384 → 0 < m / 64 → has (get_or (set now 0 1) (m / 64) 0) (m % 64) ≡ eqb m 0
     later m h k =
-        rw (get_or-set_other now 0 (m / 64) 1 0 (λ e. omega arith), r.done (m / 64) (omega arith) (omega arith))
+        rw (get_or-set_other now 0 (m / 64) 1 0 (λ e. omega arith), none (m / 64) (omega arith))
         (has-none (m % 64) ∙ sym (ne_eqb m 0 (λ e. omega arith)))
 
 -- ---- one mask more
@@ -87,23 +86,11 @@ one_more l mask long small {b} bit m h = go (eqb (m / 64) (mask / 64)) refl
 
 -- ---- two families
 
-pub united : (l other : List ℕ) {now : List ℕ} {w : ℕ} → length l ≡ 256
-    → Replaced (λ i (x : ℕ). x ≡ bit_or (get_or l i 0) (get_or other i 0)) l w now → w ≤ 0
+pub united : (l other now : List ℕ) → length now ≡ 256
+    → ((i : ℕ) → i < 256 → get_or now i 0 ≡ bit_or (get_or l i 0) (get_or other i 0))
     → (length now ≡ 256) × ((m : ℕ) → m < 16384 → in_family now m ≡ (in_family l m || in_family other m))
 unfolding in_family
-united l other long r end = (
-  r.room ∙ long,
-  λ m h. rw (r.done (m / 64) (omega arith) (omega arith)) (has-or (get_or l (m / 64) 0) (get_or other (m / 64) 0) (m % 64)),
+united l other now long is = (
+  long,
+  λ m h. rw (is (m / 64) (omega arith)) (has-or (get_or l (m / 64) 0) (get_or other (m / 64) 0) (m % 64)),
 )
-
-pub copied : {from l : List ℕ} {now : List ℕ} {w : ℕ} → length from ≡ length l → Replaced (λ i (x : ℕ). x ≡ get_or from i 0) l w now → w ≤ 0
-    → now ≡ from
-copied {from} {l} {now} long r end =
-    ext_get_or 0 now from (r.room ∙ sym long) (λ i h. r.done i (omega arith) (omega (arith, r.room)))
-
--- one number more is equal
-pub equal-more : (one other : List ℕ) (w n : ℕ) → ((i : ℕ) → w ≤ i → i < n → get_or one i 0 ≡ get_or other i 0)
-    → get_or one (w - 1) 0 ≡ get_or other (w - 1) 0 → (i : ℕ) → w - 1 ≤ i → i < n → get_or one i 0 ≡ get_or other i 0
-equal-more one other w n f e i h k =
-    ⊎_elim (λ (same : w - 1 ≡ i). subst (λ (j : ℕ). get_or one j 0 ≡ get_or other j 0) same e) (λ (more : w - 1 < i). f i (omega arith) k)
-    (eq-or-lt_of_le h)

@@ -19,7 +19,6 @@ use Rattle.model.proofs.Actions.{mem-upto}
 use Rattle.model.proofs.Bits.{has-and, has-or, has-or-right, has-mod, has-below, has_above}
 use Rattle.model.proofs.Masks.{same_bit, has-none, has-power}
 use Rattle.families.specs.Families.{in_family, Forced}
-use Rattle.families.proofs.Replacing.{Replaced}
 use Rattle.families.proofs.Families.{in-number}
 
 -- ---- tests
@@ -63,7 +62,7 @@ step_fits m j e =
     lt_of_not-le (λ (less : suc m ≤ 2 ^ j). let z : m / 2 ^ j ≡ 0 = div-eq_of_lt (omega arith) in omega arith) in
     omega arith
 
-bit-fits : (m j : ℕ) → T (has m j) → 2 ^ j ≤ m
+pub bit-fits : (m j : ℕ) → T (has m j) → 2 ^ j ≤ m
 bit-fits m j t = step_fits m j (bit-set m j t)
 
 or-power : (m j : ℕ) → bit_or m (2 ^ j) + (m / 2 ^ j % 2) * 2 ^ j ≡ m + 2 ^ j
@@ -133,16 +132,16 @@ abbrev pub GainedWord : (l : List ℕ) (j i x : ℕ) → Type 0
 GainedWord l j i x = (p : ℕ) → p < 64 → has x p ≡ gained_bit l j (64 * i + p)
 
 -- all numbers are gone through
-pub gained-all : (l : List ℕ) (j : ℕ) {now : List ℕ} {w : ℕ} → length l ≡ 256 → Replaced (GainedWord l j) l w now → w ≤ 0
+pub gained-all : (l : List ℕ) (j : ℕ) (now : List ℕ) → length now ≡ 256 → ((i : ℕ) → i < 256 → GainedWord l j i (get_or now i 0))
     → (length now ≡ 256) × Forced j l now
 unfolding in_family
-gained-all l j {now} long r end = (r.room ∙ long, forced l now j all_same)
+gained-all l j now long done = (long, forced l now j all_same)
   where
     all_same : (m : ℕ) → m < 16384 → in_family now m ≡ gained_bit l j m
     all_same m h =
         let e : 64 * (m / 64) + m % 64 ≡ m = omega arith in
         subst (λ (x : ℕ). has (get_or now (m / 64) 0) (m % 64) ≡ gained_bit l j x) e
-        (r.done (m / 64) (omega arith) (omega arith) (m % 64) (omega arith))
+        (done (m / 64) (omega arith) (m % 64) (omega arith))
 
 module _ (l : List ℕ) (i p : ℕ) (h : p < 64) where
   turned : i * 2 ^ 6 + p ≡ 64 * i + p
@@ -188,17 +187,6 @@ gained-high l now b i kept e p h =
     go false x u f = has-none p
 
 -- ---- one number
-
--- a number with the bit in its place takes what stands a step before it, and another one is left with nothing
-module _ (l : List ℕ) (w b : ℕ) where
-  pub across-some : (step : ℕ) → step ≡ 2 ^ b → w / 2 ^ b % 2 ≡ 1
-      → bit_or (get_or l w 0) (get_or l (w - step) 0) ≡ cond (has w b) (bit_or (get_or l w 0) (get_or l (w - 2 ^ b) 0)) 0
-  unfolding has
-  across-some step s e = rw (s, e) refl
-
-  pub across-none : (w / 2 ^ b % 2 ≡ 1 → ⊥) → 0 ≡ cond (has w b) (bit_or (get_or l w 0) (get_or l (w - 2 ^ b) 0)) 0
-  unfolding has
-  across-none n = rw (ne_eqb (w / 2 ^ b % 2) 1 n) refl
 
 -- a table of 64 bits: those of the places that have bit j
 pub table_is : (k j : ℕ) → T (all (λ p. same_bit (has k p) (has p j)) (upto 0 64)) → (p : ℕ) → p < 64 → has k p ≡ has p j

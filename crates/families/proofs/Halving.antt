@@ -259,26 +259,14 @@ pub none_within : (word few : ℕ) {other : ℕ} → other ≡ 0 → Joined (has
 none_within word few e = joined-none (inr (λ g t. absurd (rw (e, has-none g) at t.1)))
 
 -- the unions with the first place, the empty mask
-module _ (word other : ℕ) where
-  pub first-there : other % 2 ≡ 1 → Joined (has 0) (has word) (has other) 64 1 (has word)
-  first-there odd = record {
-    comes = λ m h t. inr record { f = m; g = 0; f_in = (h, t); g_in = (omega arith, there); is = sym (or_zero_r m) };
-    keeps = λ m h t. absurd (rw (has-none m) at t);
-    gives = λ m h u.
-        let none : u.g ≡ 0 = omega (arith, u.g_in.0) in
-        subst (λ (x : ℕ). T (has word x)) (sym (u.is ∙ ap (bit_or u.f) none ∙ or_zero_r u.f)) u.f_in.1;
-  }
-    where
-      there : T (has other 0)
-      there = rw (has-zero other, odd) tt
-
-  pub first-missing : (other % 2 ≡ 1 → ⊥) → Joined (has 0) (has word) (has other) 64 1 (has 0)
-  first-missing even = joined-none (inr missing)
-    where
-      missing : (g : ℕ) → Taken (has other) 1 g → ⊥
-      missing g t =
-          let none : g ≡ 0 = omega (arith, t.0) in
-          absurd (rw (none, has-zero other, ne_eqb (other % 2) 1 even) at t.1)
+pub first-there : (word other : ℕ) → T (has other 0) → Joined (has 0) (has word) (has other) 64 1 (has word)
+first-there word other there = record {
+  comes = λ m h t. inr record { f = m; g = 0; f_in = (h, t); g_in = (omega arith, there); is = sym (or_zero_r m) };
+  keeps = λ m h t. absurd (rw (has-none m) at t);
+  gives = λ m h u.
+      let none : u.g ≡ 0 = omega (arith, u.g_in.0) in
+      subst (λ (x : ℕ). T (has word x)) (sym (u.is ∙ ap (bit_or u.f) none ∙ or_zero_r u.f)) u.f_in.1;
+}
 
 -- the unions with the lower half of some places, and with the upper one, that a number gains bit j for
 pub halves-within : (j few : ℕ) → j < 6 → few ≡ 2 ^ j + 2 ^ j → (other low high : ℕ) → ((m : ℕ) → m < 2 ^ j → has other m ≡ has low m)
@@ -297,12 +285,9 @@ places_of j = 1 * 2 ^ j % 2 ^ 64
 abbrev low_of : (other j : ℕ) → ℕ
 low_of other j = bit_and other (1 * 2 ^ places_of j % 2 ^ 64 - 1)
 
-module _ (bits : ℕ) (given : (3 ≤ bits) × (bits ≤ 6)) where
-  abbrev j : ℕ
-  j = bits - 1
-
+module _ (j : ℕ) (given : j < 6) where
   few : 2 ^ j < 2 ^ 6
-  few = pow-lt {j = 6} (omega arith)
+  few = pow-lt {j = 6} given
 
   places_is : places_of j ≡ 2 ^ j
   places_is = omega (arith, few)
@@ -320,11 +305,9 @@ module _ (bits : ℕ) (given : (3 ≤ bits) × (bits ≤ 6)) where
       → ((p : ℕ) → p < 64 → has gained p ≡ (has p j && (has word p || has word (p - 2 ^ j))))
       → Joined (has 0) (has word) (has (low_of other j)) 64 (2 ^ j) (has first)
       → Joined (has 0) (has gained) (has (other / 2 ^ places_of j)) 64 (2 ^ j) (has second)
-      → Joined (has 0) (has word) (has other) 64 (2 ^ bits) (has (bit_or first second))
+      → Joined (has 0) (has word) (has other) 64 (2 ^ (j + 1)) (has (bit_or first second))
   more_within other =
-      let double : 2 ^ bits ≡ 2 ^ j + 2 ^ j =
-      let e : bits ≡ j + 1 = omega arith in
-      ap (λ (n : ℕ). 2 ^ n) e ∙ omega (arith, pow-add 2 j 1) in
+      let double : 2 ^ (j + 1) ≡ 2 ^ j + 2 ^ j = omega (arith, pow-add 2 j 1) in
       let low-is : low_of other j ≡ other % 2 ^ (2 ^ j) = rw power-is (and_mask other (2 ^ j)) in
-      halves-within j (2 ^ bits) (omega arith) double other (low_of other j) (other / 2 ^ places_of j)
+      halves-within j (2 ^ (j + 1)) given double other (low_of other j) (other / 2 ^ places_of j)
       (λ m h. rw low-is (sym (has-mod other (2 ^ j) m h))) (ap (λ (x : ℕ). other / 2 ^ x) places_is)

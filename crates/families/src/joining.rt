@@ -2,9 +2,8 @@
 // one number.
 ghost use Rattle.std.specs.Prelude.{◌≡◌, ℕ, ◌+◌, ◌^◌, ◌<◌, ◌≤◌, length, get_or, T};
 ghost use Rattle.std.specs.Int.Bits.{bit_or};
-ghost use Rattle.model.specs.Contract.{has};
 ghost use Rattle.families.specs.Families.{in_family};
-ghost use Rattle.families.specs.Joining.{Joined, Sizes};
+ghost use Rattle.families.specs.Joining.{Joined, Within, Sizes};
 
 use crate::gained_within;
 
@@ -15,36 +14,38 @@ const HALF: usize = 128;
 
 // All unions of a place in a number and the first place in another: the number itself, or nothing.
 fn unions_first(word: u64, other: u64) -> u64
-    ensures { Joined (has 0) (has word) (has other) 64 1 (has result) }
+    ensures { Within 1 word other result }
 {
-    if other % 2 == 1 { word } else { 0 }
+    if bits::has(other, 0) { word } else { 0 }
 }
 
-// All unions of a place in a number and one of the first two places in another: a place that is the second one has bit 0.
-fn unions_two(word: u64, other: u64) -> u64
-    ensures { Joined (has 0) (has word) (has other) 64 2 (has result) }
+// All unions of a place in a number and one of the first 2 ^ (j + 1) places in another, by a function for half as many: a place in the upper
+// half has bit j, which the number gains before.
+fn by_halves<F: Fn(u64, u64) -> u64>(word: u64, other: u64, j: u8, half: F) -> u64
+    requires places { j < 6 }
+    requires any { F.IsAlwaysCallable half }
+    requires unions { (w o r : ℕ) → F.post half w o r → Within (2 ^ j) w o r }
+    ensures { Within (2 ^ (j + 1)) word other result }
 {
-    unions_first(word, other) | unions_first(gained_within(word, 0), other >> 1)
-}
-
-// All unions of a place in a number and one of the first four places in another.
-fn unions_four(word: u64, other: u64) -> u64
-    ensures { Joined (has 0) (has word) (has other) 64 4 (has result) }
-{
-    unions_two(word, other) | unions_two(gained_within(word, 1), other >> 2)
+    let places: u64 = 1 << j;
+    let low = other & ((1 << places) - 1);
+    half(word, low) | half(gained_within(word, j), other >> places)
 }
 
 // All unions of a place in a number and one of the first eight places in another, with no test on the way.
 fn unions_low(word: u64, other: u64) -> u64
-    ensures { Joined (has 0) (has word) (has other) 64 8 (has result) }
+    ensures { Within 8 word other result }
 {
-    unions_four(word, other) | unions_four(gained_within(word, 2), other >> 4)
+    let two = |w: u64, o: u64| by_halves(w, o, 0, unions_first);
+    let four = |w: u64, o: u64| by_halves(w, o, 1, two);
+    by_halves(word, other, 2, four)
 }
 
 // All unions of a place in a number and one of the first 2 ^ bits places in another, half by half. For an empty half nothing is done.
+#[cycle(unions_within)]
 fn unions_within(word: u64, other: u64, bits: u8) -> u64
     requires { (3 ≤ bits) × (bits ≤ 6) }
-    ensures { Joined (has 0) (has word) (has other) 64 (2 ^ bits) (has result) }
+    ensures { Within (2 ^ bits) word other result }
 {
     if other == 0 {
         return 0;
@@ -53,9 +54,11 @@ fn unions_within(word: u64, other: u64, bits: u8) -> u64
         return unions_low(word, other);
     }
     let j = bits - 1;
-    let half: u64 = 1 << j;
-    let low = other & ((1 << half) - 1);
-    unions_within(word, low, j) | unions_within(gained_within(word, j), other >> half, j)
+    let half = |w: u64, o: u64|
+        requires { (3 ≤ j) × (j ≤ 6) }
+        ensures { Within (2 ^ j) w o result }
+    { unions_within(w, o, j) };
+    by_halves(word, other, j, half)
 }
 
 // ---- number by number
@@ -65,14 +68,7 @@ fn no_mask(words: &[u64]) -> bool
     ensures { (T result → (i : ℕ) → i < length words.now → get_or words.now i 0 ≡ 0)
         × (((i : ℕ) → i < length words.now → get_or words.now i 0 ≡ 0) → T result) }
 {
-    let mut w = words.len();
-    while w > 0 {
-        w = w - 1;
-        if words[w] != 0 {
-            return false;
-        }
-    }
-    true
+    words.iter().all(|word| *word == 0)
 }
 
 // The masks of the first h numbers and those of the h numbers behind them, together.
@@ -81,9 +77,7 @@ fn either_half(words: &[u64], h: usize, both: &mut [u64])
     ensures { (length both.new ≡ length both.old) × ((i : ℕ) → i < h
         → get_or both.new i 0 ≡ bit_or (get_or words.now i 0) (get_or words.now (h + i) 0)) }
 {
-    let mut w = h;
-    while w > 0 {
-        w = w - 1;
+    for w in 0..h {
         both[w] = words[w] | words[h + w];
     }
 }
@@ -102,7 +96,7 @@ pub fn unions(one: &[u64], other: &[u64], bits: usize, out: &mut [u64])
         return;
     }
     if bits == 0 {
-        out[0] = out[0] | unions_within(one[0], other[0], 6);
+        out[0] |= unions_within(one[0], other[0], 6);
         return;
     }
     let h = out.len() / 2;

@@ -4,7 +4,6 @@
 
 ghost use Rattle.std.specs.Prelude.{◌≡◌, cond, ◌&&◌, ◌||◌, ℕ, ◌+◌, ◌-◌, ◌^◌, ◌<◌, ◌≤◌, min, length, get_or, take, T, eqb};
 ghost use Rattle.std.specs.Int.Bits.{bit_or};
-ghost use Rattle.std.specs.Int.Count.{count_trailing_zeros};
 ghost use Rattle.model.specs.Contract.{has};
 ghost use Rattle.little_endian.specs.Front.{front};
 ghost use Rattle.families.specs.Families.{in_family, masks_of, masks_in, Forced, Unions};
@@ -25,11 +24,7 @@ pub fn only_empty(family: &mut [u64])
     ensures { (length family.new ≡ 256)
         × ((m : ℕ) → m < 16384 → in_family family.new m ≡ eqb m 0) }
 {
-    let mut w = WORDS;
-    while w > 0 {
-        w = w - 1;
-        family[w] = 0;
-    }
+    family.fill(0);
     family[0] = 1;
 }
 
@@ -40,7 +35,7 @@ pub fn put(family: &mut [u64], mask: u16)
         → in_family family.new m ≡ (in_family family.old m || eqb m mask)) }
 {
     let w = (mask / 64) as usize;
-    family[w] = family[w] | (1 << (mask % 64));
+    family[w] |= 1 << (mask % 64);
 }
 
 // A family, with the masks of another.
@@ -49,10 +44,8 @@ pub fn unite(family: &mut [u64], other: &[u64])
     ensures { (length family.new ≡ 256) × ((m : ℕ) → m < 16384
         → in_family family.new m ≡ (in_family family.old m || in_family other.now m)) }
 {
-    let mut w = WORDS;
-    while w > 0 {
-        w = w - 1;
-        family[w] = family[w] | other[w];
+    for (w, word) in family.iter_mut().enumerate() {
+        *word |= other[w];
     }
 }
 
@@ -61,14 +54,7 @@ pub fn same(one: &[u64], other: &[u64]) -> bool
     requires { (length one.now ≡ 256) × (length other.now ≡ 256) }
     ensures { (T result → one.now ≡ other.now) × (one.now ≡ other.now → T result) }
 {
-    let mut w = WORDS;
-    while w > 0 {
-        w = w - 1;
-        if one[w] != other[w] {
-            return false;
-        }
-    }
-    true
+    one == other
 }
 
 // A family in the place of another.
@@ -76,29 +62,20 @@ pub fn copy(from: &[u64], to: &mut [u64])
     requires { (length from.now ≡ 256) × (length to.old ≡ 256) }
     ensures { to.new ≡ from.now }
 {
-    let mut w = WORDS;
-    while w > 0 {
-        w = w - 1;
-        to[w] = from[w];
-    }
+    to.copy_from_slice(from);
 }
 
 // ---- an action gained
 
-// The places in a number that have bit j, as a number.
-fn places_with(j: u8) -> u64
-    requires { j < 6 }
-    ensures { (p : ℕ) → p < 64 → has result p ≡ has p j }
-{
-    match j {
-        0 => 0xAAAAAAAAAAAAAAAA,
-        1 => 0xCCCCCCCCCCCCCCCC,
-        2 => 0xF0F0F0F0F0F0F0F0,
-        3 => 0xFF00FF00FF00FF00,
-        4 => 0xFFFF0000FFFF0000,
-        _ => 0xFFFFFFFF00000000,
-    }
-}
+// The places in a number that have bit j, as a number, for each j.
+const PLACES_WITH: [u64; 6] = [
+    0xAAAAAAAAAAAAAAAA,
+    0xCCCCCCCCCCCCCCCC,
+    0xF0F0F0F0F0F0F0F0,
+    0xFF00FF00FF00FF00,
+    0xFFFF0000FFFF0000,
+    0xFFFFFFFF00000000,
+];
 
 // A number of a family after its masks have gained action j, which leads from place to place within the number.
 fn gained_within(word: u64, j: u8) -> u64
@@ -106,7 +83,7 @@ fn gained_within(word: u64, j: u8) -> u64
     ensures { (p : ℕ) → p < 64 → has result p ≡ (has p j && (has word p || has word (p - 2 ^ j))) }
 {
     let step: u64 = 1 << j;
-    (word | (word << step)) & places_with(j)
+    (word | (word << step)) & PLACES_WITH[j as usize]
 }
 
 // Every mask gains an action below 6: each number by itself.
@@ -114,10 +91,8 @@ fn gain_low(family: &mut [u64], j: u8)
     requires { (length family.old ≡ 256) × (j < 6) }
     ensures { (length family.new ≡ 256) × Forced j family.old family.new }
 {
-    let mut w = WORDS;
-    while w > 0 {
-        w = w - 1;
-        family[w] = gained_within(family[w], j);
+    for word in family.iter_mut() {
+        *word = gained_within(*word, j);
     }
 }
 
@@ -127,7 +102,7 @@ fn gained_across(family: &[u64], w: usize, b: u8) -> u64
     ensures { result ≡ cond (has w b) (bit_or (get_or family.now w 0) (get_or family.now (w - 2 ^ b) 0)) 0 }
 {
     let step: usize = 1 << b;
-    if (w >> b) % 2 == 1 {
+    if bits::has(w as u64, b as usize) {
         family[w] | family[w - step]
     } else {
         0
@@ -139,9 +114,7 @@ fn gain_high(family: &mut [u64], b: u8)
     requires { (length family.old ≡ 256) × (b < 8) }
     ensures { (length family.new ≡ 256) × Forced (6 + b) family.old family.new }
 {
-    let mut w = WORDS;
-    while w > 0 {
-        w = w - 1;
+    for w in (0..WORDS).rev() {
         family[w] = gained_across(family, w, b);
     }
 }
@@ -172,13 +145,6 @@ pub fn join(family: &mut [u64], other: &[u64])
 
 // ---- the masks in order
 
-// The lowest bit of a number; 64 if there is none.
-fn lowest(word: u64) -> usize
-    ensures { result ≡ count_trailing_zeros 64 word }
-{
-    u64::trailing_zeros(word) as usize
-}
-
 // The masks that number w of a family has, `room` of them at most. Gives how many there are, one more than `room` if they are more.
 fn masks_in(word: u64, w: usize, out: &mut [u16], room: usize) -> usize
     requires { (w < 256) × (room ≤ 8) × (room ≤ length out.old) }
@@ -191,9 +157,9 @@ fn masks_in(word: u64, w: usize, out: &mut [u16], room: usize) -> usize
         if n == room {
             return n + 1;
         }
-        out[n] = (64 * w + lowest(rest)) as u16;
-        n = n + 1;
-        rest = rest & (rest - 1);
+        out[n] = (64 * w + rest.trailing_zeros() as usize) as u16;
+        n += 1;
+        rest &= rest - 1;
     }
     n
 }
@@ -205,13 +171,11 @@ pub fn masks(family: &[u64], out: &mut [u16]) -> u8
         × (out.new ≡ front (take 8 (masks_of family.now)) out.old) }
 {
     let mut n: usize = 0;
-    let mut w: usize = 0;
-    while w < WORDS {
-        n = n + masks_in(family[w], w, &mut out[n..], MOST - n);
+    for (w, word) in family.iter().enumerate() {
+        n += masks_in(*word, w, &mut out[n..], MOST - n);
         if n > MOST {
             return 9;
         }
-        w = w + 1;
     }
     n as u8
 }

@@ -1,12 +1,12 @@
 -- Links that can be followed to their ends: where they lead, and that every step along one is a step down.
 -- Assumes nothing.
-use mathlib.Core.Path.{◌≡◌, refl, sym, subst}
+use mathlib.Core.Path.{◌≡◌, refl, subst}
 use mathlib.Core.Bool.{Bool, true, false, cond}
 use mathlib.Core.Logic.{◌⊎◌, inl, inr, ⊎_elim}
 use mathlib.Core.List.{List}
 use Prim.Native.Nat.{ℕ, suc, ◌+◌, ◌%◌, ◌<◌, ◌≤◌}
 use native.Mathlib.Omega.{arith}
-use native.Mathlib.Nat.{pos_of_ne-zero, eq-or-lt_of_le}
+use native.Mathlib.Nat.{eq-or-lt_of_le}
 use lib.ListN.{length, get_or}
 use lib.Dec.{ltb}
 use borrow.Author.Tests.{lt-ltb, le-ltb, ltb-true, ltb-false}
@@ -101,18 +101,10 @@ module _ (cells bodies : List ℕ) where
   link-small (at_choice _ p _ k i great lf rf le re) h = omega (arith, k)
   link-small (at_variable _ q _ i _ d) h = omega (arith, i)
 
+  -- so each is told from its cell as it is
+  pub told-link : {b link told : ℕ} → Ends cells bodies b link → length bodies ≤ 64 → told ≡ link % 512 → told ≡ link
+  told-link ends few told = omega (arith, link-small ends few)
+
   -- a rec that is led to can be led to from anywhere above it
   pub rec-ends : {b r : ℕ} → Body b r → Ends cells bodies (r + 1) (256 + r)
   rec-ends {b} {r} y = at_variable (r + 1) r (omega arith) y.inside y.place y.ends
-
-  -- the parts of a choice, by its kind
-  pub parts_at : {b link kind : ℕ} → Ends cells bodies b link → (link ≡ 0 → ⊥) → link < 256 → kind ≡ (unpacked (get_or cells link 0)).kind
-      → 14 ≤ kind → Parts b link
-  parts_at ends some small is choice = to-parts ends (pos_of_ne-zero some) small (omega (arith, is, choice))
-
--- a choice that is not (+) is +
-pub is-plus : (x : ℕ) {kind : ℕ} → kind ≡ (unpacked x).kind → 14 ≤ kind → (kind ≡ 15 → ⊥) → (unpacked x).kind ≡ 14
-unfolding unpacked
-is-plus x is choice other =
-    ⊎_elim (λ (e : 14 ≡ x % 16). sym e) (λ (h : 14 < x % 16). absurd (other (omega (arith, is, h))))
-    (eq-or-lt_of_le (omega (arith, is, choice)))

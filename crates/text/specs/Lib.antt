@@ -6,6 +6,7 @@ pub mod Places
 pub mod Convert
 pub mod Uses
 pub mod Cells
+pub mod Told
 pub mod Steps
 pub mod Tables
 pub mod Promises

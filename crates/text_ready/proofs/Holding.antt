@@ -28,11 +28,6 @@ module _ (cells bodies : List ℕ) (senses : List Sense) where
       let e = ap (λ (l : List ℕ). take 256 (drop (256 * k) l)) is ∙ in_front (256 * r) held fits (256 * k) 256 (omega (arith, low)) in
       subst⁻¹ (λ (l : List ℕ). Holds l (ready_by cells bodies senses (get_or bodies k 0))) e (below k low)
 
-  -- all for which there is room
-  pub held_all : (r : ℕ) (held : List ℕ) → length held < 256 * (r + 1) → HeldBelow cells bodies senses held r
-      → Held cells bodies senses held
-  held_all r held full below k room = below k (omega (arith, full, room))
-
   -- one more: those before it are still there, and it stands where it was written
   module _ (r : ℕ) (held zs : List ℕ) {part family family' : List ℕ} {recs' : ℕ} (fits : 256 * (r + 1) ≤ length held)
       (ends : Ends cells bodies r (get_or bodies r 0)) (only : (m : ℕ) → m < 16384 → in_family family m ≡ eqb m 0)

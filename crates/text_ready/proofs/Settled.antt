@@ -67,16 +67,6 @@ module _ (cells bodies held : List ℕ) where
   at-link {link} {link'} {recs} {recs'} {family} {family'} e a =
       subst (λ (x : ℕ). JoinedBy cells bodies held x recs family family' recs') e a
 
-  pub from_start : {link recs recs' : ℕ} {start family family' : List ℕ} → start ≡ family
-      → JoinedBy cells bodies held link recs start family' recs' → JoinedBy cells bodies held link recs family family' recs'
-  from_start {link} {recs} {recs'} {start} {family} {family'} e a =
-      subst (λ (l : List ℕ). JoinedBy cells bodies held link recs l family' recs') e a
-
-  pub put_back : {link recs recs' : ℕ} {family all family' : List ℕ} → family' ≡ all
-      → JoinedBy cells bodies held link recs family all recs' → JoinedBy cells bodies held link recs family family' recs'
-  put_back {link} {recs} {recs'} {family} {all} {family'} e a =
-      subst⁻¹ (λ (l : List ℕ). JoinedBy cells bodies held link recs family l recs') e a
-
   -- ---- the end and prefixes
 
   pub end-joined : (recs : ℕ) {family : List ℕ} → length family ≡ 256 → JoinedBy cells bodies held 0 recs family family recs

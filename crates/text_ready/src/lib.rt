@@ -3,225 +3,160 @@
 // "ready sets of + are all unions of one from each side".
 #![tactic(auto)]
 
-ghost use Rattle.std.specs.Prelude.{◌≡◌, ℕ, ◌+◌, ◌*◌, ◌^◌, ◌≤◌, ◌<◌, length, get_or, T};
-ghost use Rattle.std.specs.Int.Bits.{bit_or};
-ghost use Rattle.model.specs.Contract.{has};
+ghost use Rattle.std.specs.Prelude.{◌≡◌, ◌==◌, ℕ, ◌+◌, ◌*◌, ◌%◌, ◌≤◌, ◌<◌, MatchOption, length, get_or, take, drop};
+ghost use Rattle.std.specs.Int.Bits.{bit_and};
+ghost use Rattle.std.specs.List.{position};
 ghost use Rattle.text.specs.Cells.{Ends, unpacked};
-ghost use Rattle.text_ready.specs.Ready.{Choice, HeldAlways, HeldMore, JoinedBy, Added, PlaceReady};
+ghost use Rattle.text_ready.specs.Ready.{HeldAlways, HeldMore, PlaceReady};
 
-// Above all places: a link from here on leads to the body of a rec.
-const PLACES: u16 = 256;
+use text::{Cell, Link};
 
 // Numbers in a family.
 const WORDS: usize = 256;
 
-// ---- cells
-
-// The kind of a cell: an action, or 14 for + and 15 for (+).
-fn kind_of(cell: u32) -> u8
-    ensures { result ≡ (unpacked cell).kind }
-{
-    (cell % 16) as u8
-}
-
-// What a cell leads to first.
-fn left_of(cell: u32) -> u16
-    ensures { result ≡ (unpacked cell).left }
-{
-    (cell / 16 % 512) as u16
-}
-
-// What it leads to besides. Links are below 512.
-fn right_of(cell: u32) -> u16
-    requires { (unpacked cell).right < 512 }
-    ensures { result ≡ (unpacked cell).right }
-{
-    (cell / 8192) as u16
-}
-
-// Whether a link leads to a place with an internal choice.
-fn is_choice(cells: &[u32], at: u16) -> bool
-    ensures { (T result → Choice cells.now at) × (Choice cells.now at → T result) }
-{
-    let p = at as usize;
-    if p == 0 {
-        return false;
-    }
-    if cells.len() <= p {
-        return false;
-    }
-    kind_of(cells[p]) == 15
-}
-
-// ---- recs, a bit for each
-
-// Whether a set has rec r.
-fn has_rec(recs: u64, r: usize) -> bool
-    requires { r < 64 }
-    ensures { result ≡ has recs r }
-{
-    (recs >> r) % 2 == 1
-}
-
-// A set, with rec r.
-fn with_rec(recs: u64, r: usize) -> u64
-    requires { r < 64 }
-    ensures { result ≡ bit_or recs (2 ^ r) }
-{
-    recs | (1 << r)
-}
+// A set of masks, as its numbers.
+type Family = [u64; WORDS];
 
 // ---- joining
 
-// The body of a rec joined with a family: at once, if the family of the body is held.
-#[cycle(add_part_join_join_body_join_choice_join_rec)]
-fn join_rec(
-    cells: &[u32],
-    bodies: &[u16],
-    held: &[u64],
-    r: usize,
-    family: &mut [u64],
-    recs: u64,
-) -> u64
-    requires { (length bodies.now ≤ 64) × (length cells.now ≤ 256) × (length family.old ≡ 256)
-        × Ends cells.now bodies.now (r + 1) (256 + r) }
-    ensures { JoinedBy cells.now bodies.now held.now (256 + r) recs family.old
-        family.new result }
-{
-    if r < held.len() / WORDS {
-        families::join(family, &held[WORDS * r..WORDS * r + WORDS]);
-        return recs;
-    }
-    join(cells, bodies, held, bodies[r], r, family, recs)
+// The parts of a term: the cells of its places, what leads to the bodies of its recs, and the families of the first bodies, which are held.
+#[derive(Clone, Copy)]
+struct Parts<'a> {
+    cells: &'a [u32],
+    bodies: &'a [u16],
+    held: &'a [u64],
+    ghost few_places: { length cells.now ≤ 256 },
+    ghost few_recs: { length bodies.now ≤ 64 },
 }
 
-// The same, unless it is known to change nothing. Notes if it changed nothing.
-#[cycle(add_part_join_join_body_join_choice_join_rec)]
-fn join_body(
-    cells: &[u32],
-    bodies: &[u16],
-    held: &[u64],
-    r: usize,
-    family: &mut [u64],
-    recs: u64,
-) -> u64
-    requires { (length bodies.now ≤ 64) × (length cells.now ≤ 256) × (length family.old ≡ 256)
-        × Ends cells.now bodies.now (r + 1) (256 + r) }
-    ensures { JoinedBy cells.now bodies.now held.now (256 + r) recs family.old
-        family.new result }
-{
-    if has_rec(recs, r) {
-        return recs;
+impl Parts<'_> {
+    ghost use Rattle.text_ready.specs.Parts.{Leads, Chooses, Joins, Adds, Readies};
+
+    // What an internal choice leads to, if that is what a link leads to.
+    fn inner_at(&self, link: u16) -> Option<(u16, u16)>
+        requires { (bound : ℕ) × Leads self.now bound link }
+        ensures { MatchOption result (Chooses self.now link → ⊥) (λ both. Chooses self.now link
+            × (both.0 ≡ (unpacked (get_or self.now.cells.now link 0)).left)
+            × (both.1 ≡ (unpacked (get_or self.now.cells.now link 0)).right % 512)) }
+    {
+        let Link::Place(p) = Link::from(link) else {
+            return None;
+        };
+        match Cell::from(self.cells[p]) {
+            Cell::Inner { left, right } => Some((left, right)),
+            _ => None,
+        }
     }
-    let mut before = [0u64; 256];
-    families::copy(family, &mut before);
-    let then = join_rec(cells, bodies, held, r, family, recs);
-    if families::same(&before, family) {
-        with_rec(then, r)
-    } else {
+
+    // The family of the body of a rec, if it is held.
+    fn held_body(&self, r: usize) -> Option<&[u64]>
+        ensures { MatchOption result (length self.now.held.now < 256 * (r + 1)) (λ family.
+            (256 * (r + 1) ≤ length self.now.held.now) × (family.now ≡ take 256 (drop (256 * r) self.now.held.now))) }
+    {
+        if r < self.held.len() / WORDS {
+            Some(&self.held[WORDS * r..WORDS * r + WORDS])
+        } else {
+            None
+        }
+    }
+
+    // The body of a rec joined with a family: at once, if the family of the body is held.
+    #[cycle(joining)]
+    fn join_rec(&self, r: usize, family: &mut Family, recs: u64) -> u64
+        requires { Leads self.now (r + 1) (256 + r) }
+        ensures { Joins self.now (256 + r) recs family.old family.new result }
+    {
+        if let Some(body) = self.held_body(r) {
+            families::join(family, body);
+            return recs;
+        }
+        self.join(self.bodies[r], r, family, recs)
+    }
+
+    // The same, unless it is known to change nothing. Notes if it changed nothing.
+    #[cycle(joining)]
+    fn join_body(&self, r: usize, family: &mut Family, recs: u64) -> u64
+        requires { Leads self.now (r + 1) (256 + r) }
+        ensures { Joins self.now (256 + r) recs family.old family.new result }
+    {
+        if bits::has(recs, r) {
+            return recs;
+        }
+        let before = *family;
+        let then = self.join_rec(r, family, recs);
+        if families::same(&before, family) {
+            then | (1 << r)
+        } else {
+            then
+        }
+    }
+
+    // What a link leads to, joined with the family at the start and put into one family with the other parts of an internal choice.
+    #[cycle(joining)]
+    fn add_part(&self, link: u16, bound: usize, start: &Family, recs: u64, all: &mut Family) -> u64
+        requires { Leads self.now bound link }
+        ensures { (kept : ℕ) → Adds self.now link recs start.now all.old all.new kept (bit_and kept result) }
+    {
+        let mut part = *start;
+        let then = self.join(link, bound, &mut part, recs);
+        families::unite(all, &part);
         then
     }
-}
 
-// What a link leads to, joined with the family at the start and put into one family with the other parts of an internal choice.
-#[cycle(add_part_join_join_body_join_choice_join_rec)]
-fn add_part(
-    cells: &[u32],
-    bodies: &[u16],
-    held: &[u64],
-    link: u16,
-    bound: usize,
-    start: &[u64],
-    recs: u64,
-    all: &mut [u64],
-    kept: u64,
-) -> u64
-    requires { (length bodies.now ≤ 64) × (length cells.now ≤ 256) × (length start.now ≡ 256) × (length all.old ≡ 256)
-        × Ends cells.now bodies.now bound link }
-    ensures { Added cells.now bodies.now held.now link recs start.now
-        all.old all.new kept result }
-{
-    let mut part = [0u64; 256];
-    families::copy(start, &mut part);
-    let then = join(cells, bodies, held, link, bound, &mut part, recs);
-    families::unite(all, &part);
-    kept & then
-}
+    // An internal choice joined with a family: each of its parts with what the family was. A chain of choices to the left is gone along.
+    #[cycle(joining)]
+    fn join_choice(&self, place: u16, bound: usize, family: &mut Family, recs: u64) -> u64
+        requires { Leads self.now bound place × Chooses self.now place }
+        ensures { Joins self.now place recs family.old family.new result }
+    {
+        let start = *family;
+        let mut all = [0; WORDS];
+        let mut kept = u64::MAX;
+        let mut at = place;
+        while let Some((left, right)) = self.inner_at(at) {
+            kept &= self.add_part(right, bound, &start, recs, &mut all);
+            at = left;
+        }
+        let last = self.add_part(at, bound, &start, recs, &mut all);
+        *family = all;
+        kept & last
+    }
 
-// An internal choice joined with a family: each of its parts with what the family was. A chain of choices to the left is gone along.
-#[cycle(add_part_join_join_body_join_choice_join_rec)]
-fn join_choice(
-    cells: &[u32],
-    bodies: &[u16],
-    held: &[u64],
-    place: u16,
-    bound: usize,
-    family: &mut [u64],
-    recs: u64,
-) -> u64
-    requires { (length bodies.now ≤ 64) × (length cells.now ≤ 256) × (length family.old ≡ 256)
-        × Ends cells.now bodies.now bound place × Choice cells.now place }
-    ensures { JoinedBy cells.now bodies.now held.now place recs family.old
-        family.new result }
-{
-    let mut start = [0u64; 256];
-    families::copy(family, &mut start);
-    let mut all = [0u64; 256];
-    let mut kept = 0xFFFFFFFFFFFFFFFF;
-    let mut at = place;
-    while is_choice(cells, at) {
-        let cell = cells[at as usize];
-        kept = add_part(
-            cells,
-            bodies,
-            held,
-            right_of(cell),
-            bound,
-            &start,
-            recs,
-            &mut all,
-            kept,
-        );
-        at = left_of(cell);
+    // A family joined with what a link leads to. Answers which recs' bodies would change nothing any more, a bit for each rec.
+    #[cycle(joining)]
+    fn join(&self, link: u16, bound: usize, family: &mut Family, recs: u64) -> u64
+        requires { Leads self.now bound link }
+        ensures { Joins self.now link recs family.old family.new result }
+    {
+        let p = match Link::from(link) {
+            Link::End => return recs,
+            Link::Body(r) => return self.join_body(r, family, recs),
+            Link::Place(p) => p,
+        };
+        match Cell::from(self.cells[p]) {
+            Cell::Prefix { action, .. } => {
+                families::gain(family, action);
+                recs
+            }
+            Cell::Inner { .. } => self.join_choice(link, bound, family, recs),
+            Cell::Plus { left, right } => {
+                let then = self.join(left, bound, family, recs);
+                self.join(right, bound, family, then)
+            }
+        }
     }
-    kept = add_part(cells, bodies, held, at, bound, &start, recs, &mut all, kept);
-    families::copy(&all, family);
-    kept
-}
 
-// A family joined with what a link leads to. Answers which recs' bodies would change nothing any more.
-#[cycle(add_part_join_join_body_join_choice_join_rec)]
-fn join(
-    cells: &[u32],
-    bodies: &[u16],
-    held: &[u64],
-    link: u16,
-    bound: usize,
-    family: &mut [u64],
-    recs: u64,
-) -> u64
-    requires { (length bodies.now ≤ 64) × (length cells.now ≤ 256) × (length family.old ≡ 256)
-        × Ends cells.now bodies.now bound link }
-    ensures { JoinedBy cells.now bodies.now held.now link recs family.old
-        family.new result }
-{
-    if PLACES <= link {
-        return join_body(cells, bodies, held, (link - PLACES) as usize, family, recs);
+    // The ready sets of a place, by joining its parts.
+    fn join_ready(&self, place: u16, out: &mut [u16]) -> u8
+        requires { (8 ≤ length out.old) × (place < 256)
+            × Leads self.now (length self.now.bodies.now) place }
+        ensures { Readies self.now place out.old result out.new }
+    {
+        let mut family = [0; WORDS];
+        families::only_empty(&mut family);
+        self.join(place, self.bodies.len(), &mut family, 0);
+        families::masks(&family, out)
     }
-    if link == 0 {
-        return recs;
-    }
-    let cell = cells[link as usize];
-    let kind = kind_of(cell);
-    if kind < 14 {
-        families::gain(family, kind);
-        return recs;
-    }
-    if kind == 15 {
-        return join_choice(cells, bodies, held, link, bound, family, recs);
-    }
-    let then = join(cells, bodies, held, left_of(cell), bound, family, recs);
-    join(cells, bodies, held, right_of(cell), bound, family, then)
 }
 
 // ---- the bodies of the first recs
@@ -232,17 +167,14 @@ fn hold_body(cells: &[u32], bodies: &[u16], r: usize, held: &mut [u64])
         × Ends cells.now bodies.now r (get_or bodies.now r 0) }
     ensures { HeldMore cells.now bodies.now r held.old held.new }
 {
-    let mut family = [0u64; 256];
+    let mut family = [0; WORDS];
     families::only_empty(&mut family);
-    join(
+    let parts = Parts {
         cells,
         bodies,
-        &held[0..WORDS * r],
-        bodies[r],
-        r,
-        &mut family,
-        0,
-    );
+        held: &held[..WORDS * r],
+    };
+    parts.join(bodies[r], r, &mut family, 0);
     families::copy(&family, &mut held[WORDS * r..WORDS * r + WORDS]);
 }
 
@@ -253,41 +185,18 @@ pub fn hold_bodies(cells: &[u32], bodies: &[u16], held: &mut [u64])
     ensures { (length held.new ≡ length held.old)
         × HeldAlways cells.now bodies.now held.new }
 {
-    let mut r: usize = 0;
-    while r < held.len() / WORDS {
+    for r in 0..held.len() / WORDS {
         hold_body(cells, bodies, r, held);
-        r = r + 1;
     }
 }
 
 // ---- the ready sets of a place
 
-// The first rec whose body is at a place; as many as there are if none is.
-fn body_at(bodies: &[u16], place: u16) -> usize
-    ensures { (result ≤ length bodies.now) × (result < length bodies.now → get_or bodies.now result 0 ≡ place)
-        × ((i : ℕ) → i < result → get_or bodies.now i 0 ≡ place → ⊥) }
+// The first rec whose body is at a place, if there is one.
+fn body_at(bodies: &[u16], place: u16) -> Option<usize>
+    ensures { result ≡ position (λ body. body == place) bodies.now }
 {
-    let mut at: usize = 0;
-    while at < bodies.len() {
-        if bodies[at] == place {
-            return at;
-        }
-        at = at + 1;
-    }
-    at
-}
-
-// The ready sets of a place, by joining its parts.
-fn join_ready(cells: &[u32], bodies: &[u16], held: &[u64], place: u16, out: &mut [u16]) -> u8
-    requires { (length bodies.now ≤ 64) × (length cells.now ≤ 256) × (8 ≤ length out.old) × (place < 256)
-        × Ends cells.now bodies.now (length bodies.now) place }
-    ensures { PlaceReady cells.now bodies.now held.now place out.old result
-        out.new }
-{
-    let mut family = [0u64; 256];
-    families::only_empty(&mut family);
-    join(cells, bodies, held, place, bodies.len(), &mut family, 0);
-    families::masks(&family, out)
+    bodies.iter().position(|body| *body == place)
 }
 
 // The ready sets of a place, ascending, eight of them at most: those that are held if it is a body. Gives how many there are, 9 if more
@@ -295,14 +204,17 @@ fn join_ready(cells: &[u32], bodies: &[u16], held: &[u64], place: u16, out: &mut
 pub fn put_ready(cells: &[u32], bodies: &[u16], held: &[u64], place: u16, out: &mut [u16]) -> u8
     requires { (length bodies.now ≤ 64) × (length cells.now ≤ 256) × (8 ≤ length out.old) × (place < 256)
         × Ends cells.now bodies.now (length bodies.now) place }
-    ensures { PlaceReady cells.now bodies.now held.now place out.old result
-        out.new }
+    ensures { PlaceReady cells.now bodies.now held.now place out.old result out.new }
 {
-    let r = body_at(bodies, place);
-    if r < bodies.len() {
-        if r < held.len() / WORDS {
-            return families::masks(&held[WORDS * r..WORDS * r + WORDS], out);
+    let parts = Parts {
+        cells,
+        bodies,
+        held,
+    };
+    if let Some(r) = body_at(bodies, place) {
+        if let Some(family) = parts.held_body(r) {
+            return families::masks(family, out);
         }
     }
-    join_ready(cells, bodies, held, place, out)
+    parts.join_ready(place, out)
 }

@@ -1,29 +1,25 @@
--- `families::gain_high` meets its contract. The loop's invariant: the numbers from w on have gained the action, the others are as lent.
+-- `families::gain_high` meets its contract: a number gains the action from one that is as lent, and those behind it have.
 -- Assumes nothing.
-use Prim.Native.Nat.{◌-◌, ◌+◌}
+use mathlib.Core.Path.{◌≡◌, ◌∙◌}
+use Prim.Native.Nat.{◌+◌, ◌-◌}
 use native.Mathlib.Omega.{arith}
-use Rattle.families.proofs.Replacing.{replaced-none, replaced-more}
-use Rattle.families.proofs.Gaining.{gained-high, gained-all}
+use lib.Seq.{get_or-set_other}
+use Rattle.families.proofs.Replacing.{replaced_at}
+use Rattle.families.proofs.Gaining.{GainedWord, gained-high, gained-all}
 use Rattle.families.proofs.gain_high.Goals as goal
-
-pub loop-w-init : goal.loop-w-init
-loop-w-init c = replaced-none _ c.requires.0
-
-pub gained_across-requires : goal.gained_across-requires
-gained_across-requires c = let l = c.loop-w in (omega (arith, l.invariant.room, l.invariant.low), omega arith)
-
-pub bounds-family-w : goal.bounds-family-w
-bounds-family-w c = let l = c.loop-w in omega (arith, l.invariant.room, l.invariant.low)
 
 pub loop-w-preserved : goal.loop-w-preserved
 loop-w-preserved c =
     let l = c.loop-w in
-    let a = c.args in
-    replaced-more _ l.invariant (omega arith)
-    (gained-high a.family.now l.family a.b (l.w - 1) (λ k h. l.invariant.kept k (omega arith)) c.gained_across.ensures)
-
-pub shape_of-family : goal.shape_of-family
-shape_of-family c = c.loop-w.invariant.room
+    let family = c.args.family.now in
+    let b = c.args.b in
+    let w = l.w - 1 in
+    let here = gained-high family l.family b w (λ k h. l.invariant.1 k (omega arith)) c.gained_across.ensures in (
+      λ i h k. replaced_at (GainedWord family (6 + b)) l.family w _ i (omega arith) here (λ other. l.invariant.0 i (omega arith) k),
+      λ i h. get_or-set_other l.family w i _ 0 (λ same. omega arith) ∙ l.invariant.1 i (omega arith),
+    )
 
 pub returns : goal.returns
-returns c = gained-all _ (6 + c.args.b) c.requires.0 c.loop-w.invariant (omega arith)
+returns c =
+    let l = c.loop-w in
+    gained-all c.args.family.now (6 + c.args.b) _ (omega arith) (λ i h. l.invariant.0 i (omega arith) h)

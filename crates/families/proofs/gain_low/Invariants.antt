@@ -1,11 +1,12 @@
--- `families::gain_low` meets its contract. The loop's invariant: the numbers from w on have gained the action, the others are as lent.
+-- `families::gain_low` meets its contract. The loop's invariant: the numbers before this one have gained the action, the others are as lent.
 -- Assumes nothing.
-use Rattle.families.proofs.Replacing.{Replaced}
+use mathlib.Core.Path.{◌≡◌}
+use Prim.Native.Nat.{ℕ, ◌≤◌, ◌<◌}
+use lib.ListN.{get_or}
 use Rattle.families.proofs.Gaining.{GainedWord}
 use Rattle.families.proofs.gain_low.Given as goal
 
-abbrev pub invariant-loop-w : goal.invariant-loop-w
-invariant-loop-w l = Replaced (GainedWord l.initial.family l.j) l.initial.family l.w l.family
-
-abbrev pub decreases-loop-w : goal.decreases-loop-w
-decreases-loop-w l = l.w
+abbrev pub invariant-loop-word : goal.invariant-loop-word
+invariant-loop-word l =
+    ((i : ℕ) → i < l.word-index → GainedWord l.initial.family l.j i (get_or l.family i 0))
+    × ((i : ℕ) → l.word-index ≤ i → get_or l.family i 0 ≡ get_or l.initial.family i 0)

@@ -12,31 +12,12 @@ use Rattle.families.proofs.masks.Goals as goal
 pub loop-w-init : goal.loop-w-init
 loop-w-init c = (omega arith, writing-none _ _ (from_all _))
 
-pub slice_bounds-masks_in-count : goal.slice_bounds-masks_in-count
-slice_bounds-masks_in-count c = let l = c.loop-w in omega (arith, writing-length l.invariant.1 (omega arith))
-
-pub slice_bounds-masks_in-start : goal.slice_bounds-masks_in-start
-slice_bounds-masks_in-start c = let l = c.loop-w in omega (arith, writing-length l.invariant.1 (omega arith))
-
-pub masks_in-n-requires : goal.masks_in-n-requires
-masks_in-n-requires c =
-    let l = c.loop-w in
-    (omega arith, omega arith, rest-room l.invariant.1 (8 - l.n) (omega arith))
-
-pub overflow_add-n : goal.overflow_add-n
-overflow_add-n c = omega (arith, c.masks_in-n.ensures.0)
-
 pub returns-then-n-gt-MOST : goal.returns-then-n-gt-MOST
 returns-then-n-gt-MOST c =
     let l = c.loop-w in
     let family = c.args.family.now in
     piece-over l.invariant.1 (masks_in l.w (get_or family l.w 0)) _ (from_more family l.w (omega arith)) (8 - l.n) (omega arith)
     c.masks_in-n.ensures 8 (omega arith) (omega arith)
-
-pub shape_of-out-then-n-gt-MOST : goal.shape_of-out-then-n-gt-MOST
-shape_of-out-then-n-gt-MOST c =
-    let start = c.args in
-    most-length 8 (masks_of start.family.now) start.out.now (returns-then-n-gt-MOST c) (omega arith)
 
 pub loop-w-preserved : goal.loop-w-preserved
 loop-w-preserved c =
@@ -46,9 +27,6 @@ loop-w-preserved c =
       piece-all l.invariant.1 (masks_in l.w (get_or family l.w 0)) _ (from_more family l.w (omega arith)) (8 - l.n) (omega arith)
           c.masks_in-n.ensures (omega arith),
     )
-
-pub shape_of-out : goal.shape_of-out
-shape_of-out c = writing-length c.loop-w.invariant.1 (omega arith)
 
 pub returns : goal.returns
 returns c = let l = c.loop-w in writing-end l.invariant.1 (from_end _ l.w (omega arith)) 8 l.invariant.0

@@ -8,6 +8,3 @@ use Rattle.families.proofs.masks.Given as goal
 
 abbrev pub invariant-loop-w : goal.invariant-loop-w
 invariant-loop-w l = (l.n ≤ 8) × Writing (masks_of l.family) l.initial.out l.out l.n (masks_from l.family l.w)
-
-abbrev pub decreases-loop-w : goal.decreases-loop-w
-decreases-loop-w l = 256 - l.w

@@ -1,26 +1,14 @@
--- `families::only_empty` meets its contract. The loop's invariant: the numbers from w on are 0.
+-- `families::only_empty` meets its contract: all numbers are 0, and then the first is 1.
 -- Assumes nothing.
-use mathlib.Core.Path.{refl, ◌∙◌}
+use mathlib.Core.Path.{ap, ◌∙◌}
+use Prim.Native.Nat.{ℕ}
+use mathlib.Core.List.{List}
 use native.Mathlib.Omega.{arith}
-use lib.ListN.{length-set}
-use Rattle.families.proofs.Replacing.{replaced-none, replaced-more}
+use lib.ListN.{get_or, get_or-replicate}
 use Rattle.families.proofs.Families.{empty-only}
 use Rattle.families.proofs.only_empty.Goals as goal
 
-pub loop-w-init : goal.loop-w-init
-loop-w-init c = replaced-none _ c.requires
-
-pub bounds-family-w : goal.bounds-family-w
-bounds-family-w c = let l = c.loop-w in omega (arith, l.invariant.room, l.invariant.low)
-
-pub loop-w-preserved : goal.loop-w-preserved
-loop-w-preserved c = replaced-more _ c.loop-w.invariant (omega arith) refl
-
-pub bounds-family-0 : goal.bounds-family-0
-bounds-family-0 c = omega (arith, c.loop-w.invariant.room)
-
-pub shape_of-family : goal.shape_of-family
-shape_of-family c = length-set c.loop-w.family 0 1 ∙ c.loop-w.invariant.room
-
 pub returns : goal.returns
-returns c = empty-only c.requires c.loop-w.invariant (omega arith)
+returns c =
+    let zeros = c.fill.ensures.after (λ y e. e) in
+    empty-only _ (c.fill.ensures.len ∙ c.requires) (λ i h. ap (λ (l : List ℕ). get_or l i 0) zeros ∙ get_or-replicate _ i 0 0 (omega arith))

@@ -1,9 +1,6 @@
 -- `text_ready::hold_bodies` meets its contract. The loop's invariant: the families of the bodies of the recs below r stand there.
 -- Assumes nothing.
-use mathlib.Core.Path.{◌≡◌}
 use mathlib.Core.List.{List}
-use Prim.Native.Nat.{◌*◌, ◌-◌, ◌≤◌}
-use lib.ListN.{length}
 use Rattle.text.specs.Places.{Sense}
 use Rattle.text.specs.Cells.{Explained}
 use Rattle.text_ready.specs.Ready.{HeldBelow}
@@ -11,8 +8,4 @@ use Rattle.text_ready.proofs.hold_bodies.Given as goal
 
 abbrev pub invariant-loop-r : goal.invariant-loop-r
 invariant-loop-r l =
-    (length l.held ≡ length l.initial.held) × (256 * l.r ≤ length l.initial.held)
-    × ((senses : List Sense) → Explained l.cells l.bodies senses → HeldBelow l.cells l.bodies senses l.held l.r)
-
-abbrev pub decreases-loop-r : goal.decreases-loop-r
-decreases-loop-r l = length l.initial.held - l.r
+    (senses : List Sense) → Explained l.cells l.bodies senses → HeldBelow l.cells l.bodies senses l.held l.r

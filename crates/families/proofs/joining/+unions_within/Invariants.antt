@@ -1,7 +1,10 @@
--- The proof of the cycle of calls {unions_within}. The measure is `bits`. A bit of the other number that is in its upper half is one of the
--- lower half with bit j, which the first number gains before.
+-- The measure is the number of places by its power: the call for half of them has one less.
 -- Assumes nothing.
+use Prim.Native.Nat.{◌+◌, ◌*◌}
 use Rattle.families.proofs.joining.+unions_within.Given as goal
 
 abbrev pub decreases-unions_within : goal.decreases-unions_within
-decreases-unions_within l = l.bits
+decreases-unions_within l = l.bits * 2
+
+abbrev pub decreases-half : goal.decreases-half
+decreases-half l = l.j * 2 + 1

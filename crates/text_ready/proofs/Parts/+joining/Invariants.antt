@@ -3,7 +3,7 @@
 use Prim.Native.Nat.{◌+◌, ◌*◌}
 use Rattle.text.proofs.Ends.{weight}
 use Rattle.text_ready.proofs.Choosing.{Choosing}
-use Rattle.text_ready.proofs.+add_part_join_join_body_join_choice_join_rec.Given as goal
+use Rattle.text_ready.proofs.Parts.+joining.Given as goal
 
 abbrev pub decreases-add_part : goal.decreases-add_part
 decreases-add_part l = l.bound * 2048 + (4 * weight l.link + 2)
@@ -20,8 +20,8 @@ decreases-join_rec l = l.r * 2048 + 1500
 abbrev pub decreases-join_choice : goal.decreases-join_choice
 decreases-join_choice l = l.bound * 2048 + 4 * weight l.place
 
-abbrev pub invariant-join_choice-loop-at : goal.invariant-join_choice-loop-at
-invariant-join_choice-loop-at l = Choosing l.cells l.bodies l.held l.place l.bound l.recs l.start l.all l.kept l.at
+abbrev pub invariant-join_choice-loop-left : goal.invariant-join_choice-loop-left
+invariant-join_choice-loop-left l = Choosing l.self.cells.now l.self.bodies.now l.self.held.now l.place l.bound l.recs l.start l.all l.kept l.at
 
-abbrev pub decreases-join_choice-loop-at : goal.decreases-join_choice-loop-at
-decreases-join_choice-loop-at l = weight l.at
+abbrev pub decreases-join_choice-loop-left : goal.decreases-join_choice-loop-left
+decreases-join_choice-loop-left l = weight l.at
