@@ -22,7 +22,8 @@ use Rattle.text.specs.Tables.{IsWanted, PlaceTables}
 use Rattle.text_ready.proofs.Slots.{put-below}
 use Rattle.text_places.specs.Wanted.{Wanting}
 use Rattle.text_places.specs.Filled.{Rooms, Kept, FilledPlace, Filling}
-use Rattle.text_places.proofs.Parts.{masks-here, set_here, set_below, set-above, sets-empty}
+use Rattle.place_sets.proofs.Listed.{put-here, put_other}
+use Rattle.text_places.proofs.Lent.{masks-here, sets-empty}
 
 module _ (cells bodies : List ℕ) where
   -- ---- one place written
@@ -60,7 +61,7 @@ module _ (cells bodies : List ℕ) where
       size_is = λ senses x. get_or-set_same sizes p many 0 (omega (arith, rooms.sizes_room)) ∙ (ready senses x).0;
       masks_are = λ senses x few. masks-here p masks zs (sorted (sense_at senses p).ready) masks-fit (ready senses x).1 few;
       prefixes_are = λ senses x.
-          subst⁻¹ (PrefixesOf cells bodies senses p) (set_here p prefixes ys prefixes-fit told.0) (told.1 senses x);
+          subst⁻¹ (PrefixesOf cells bodies senses p) (put-here prefixes ys p prefixes-fit told.0) (told.1 senses x);
     }
 
     pub filled : Rooms sizes' masks' prefixes' → FilledPlace cells bodies p sizes masks prefixes sizes' masks' prefixes'
@@ -70,8 +71,8 @@ module _ (cells bodies : List ℕ) where
       left = record {
         size_left = λ k h. get_or-set_other sizes p k many 0 (λ same. omega arith);
         masks_left = λ k h. put-below (8 * p) (length masks - 8 * p) masks zs masks-fit (8 * k) 8 (omega arith);
-        prefixes_below = set_below p prefixes ys prefixes-fit told.0;
-        prefixes_above = set-above p prefixes ys prefixes-fit told.0;
+        prefixes_below = λ k h. put_other prefixes ys p prefixes-fit told.0 k (λ same. omega arith);
+        prefixes_above = λ k h. put_other prefixes ys p prefixes-fit told.0 k (λ same. omega arith);
       };
     }
 

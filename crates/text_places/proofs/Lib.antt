@@ -1,3 +1,4 @@
 pub mod Wanting
-pub mod Parts
+pub mod Lent
 pub mod Filling
+pub mod Same

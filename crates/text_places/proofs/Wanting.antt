@@ -1,10 +1,10 @@
 -- The places that can be in a state, put to a set one by one: the first, and each that stands directly behind a prefix.
 -- Assumes nothing.
-use mathlib.Core.Path.{◌≡◌, refl, subst, subst⁻¹}
+use mathlib.Core.Path.{◌≡◌, refl, ap, subst, subst⁻¹, ◌∙◌}
 use mathlib.Core.Bool.{Bool, true, false}
 use mathlib.Core.Logic.{⊎_elim}
 use mathlib.Core.List.{List, []}
-use Prim.Native.Nat.{ℕ, ◌+◌, ◌-◌, ◌/◌, ◌%◌, ◌^◌, ◌≤◌, ◌<◌}
+use Prim.Native.Nat.{ℕ, ◌+◌, ◌-◌, ◌^◌, ◌≤◌, ◌<◌}
 use native.Mathlib.Omega.{arith}
 use native.Mathlib.Nat.{eq-or-lt_of_le}
 use lib.ListN.{length, get_or}
@@ -14,10 +14,12 @@ use borrow.Author.Tests.{lt-ltb, le-ltb, ltb-true, ltb-false}
 use Rattle.model.specs.Contract.{has}
 use Rattle.model.proofs.Bits.{has-or-left, has-or-right, has-or-cases}
 use Rattle.model.proofs.Masks.{has-power, power-has}
-use Rattle.nodes.proofs.Sets.{not-in-none}
 use Rattle.place_sets.specs.PlaceSets.{number_of}
 use Rattle.text.specs.Places.{Sense}
-use Rattle.text.specs.Cells.{Ends, at_end, at_prefix, at_choice, at_variable, Explained, cell_at, unpacked, place_of}
+use Rattle.text.specs.declared.Cell as code
+use Rattle.text.specs.declared.Cell.TheVariants.{Prefix, Plus, Inner}
+use Rattle.text.specs.Told.{Told}
+use Rattle.text.specs.Cells.{Cell, Ends, at_end, at_prefix, at_choice, at_variable, Explained, cell_at, unpacked, place_of}
 use Rattle.text.specs.Steps.{step_of}
 use Rattle.text.proofs.Ends.{to-body}
 use Rattle.text_places.specs.Wanted.{Known, Wanting}
@@ -31,6 +33,12 @@ place-itself cells bodies link h = rw (lt-ltb link 256 h) refl
 pub place-body : (cells bodies : List ℕ) (link : ℕ) → 256 ≤ link → place_of cells bodies link ≡ get_or bodies (link - 256) 0
 unfolding place_of
 place-body cells bodies link h = rw (le-ltb link 256 h) refl
+
+-- what is no prefix is a choice
+pub told-choice : (cell : Cell) (place : code.Cell) → Told cell place → ((action next : ℕ) → place ≡ Prefix action next → ⊥) → 14 ≤ cell.kind
+told-choice cell (Prefix action next) told other = absurd (other action next refl)
+told-choice cell (Plus left right) told other = omega (arith, told.0)
+told-choice cell (Inner left right) told other = omega (arith, told.0)
 
 module _ (cells bodies : List ℕ) where
   -- the cells of some term, one of which is told
@@ -65,34 +73,33 @@ module _ (cells bodies : List ℕ) where
           let y = to-body cells bodies b (link - 256) e (omega arith) in
           subst⁻¹ (λ (x : ℕ). x < length cells) (place-body cells bodies link h) (place-has y.ends y.place some)
 
-  -- what a prefix leads to can be followed, by the numbers of its cell
-  pub behind-ends : Known cells bodies → (p : ℕ) → 0 < p → p < length cells → get_or cells p 0 % 16 < 14
-      → Ends cells bodies (length bodies) (get_or cells p 0 / 16 % 512)
-  unfolding cell_at unpacked
-  behind-ends known p some inside kind = known.explained.prefix_ends p some inside kind
+  -- what a prefix leads to can be followed
+  pub behind-ends : Known cells bodies → (p : ℕ) → 0 < p → p < length cells → (unpacked (get_or cells p 0)).kind < 14
+      → {next : ℕ} → next ≡ (unpacked (get_or cells p 0)).left → Ends cells bodies (length bodies) next
+  unfolding cell_at
+  behind-ends known p some inside kind is =
+      subst⁻¹ (Ends cells bodies (length bodies)) is (known.explained.prefix_ends p some inside kind)
 
   -- ---- the set
 
-  -- the first place, in an empty set
-  pub wanting-first : (first : ℕ) {x : ℕ} {set' : List ℕ} → first < length cells → x ≡ 0
-      → number_of set' ≡ bit_or x (2 ^ first) → length set' ≡ 4 → Wanting cells bodies first 1 set'
-  wanting-first first {x} {set'} low none is room = record {
+  -- the first place alone
+  pub wanting-first : (first : ℕ) {set : List ℕ} → first < length cells → number_of set ≡ 2 ^ first → length set ≡ 4
+      → Wanting cells bodies first 1 set
+  wanting-first first {set} low is room = record {
     room = room;
-    has_first = subst⁻¹ (λ (y : ℕ). T (has y first)) is (has-or-right x (2 ^ first) first (has-power first));
+    has_first = subst⁻¹ (λ (y : ℕ). T (has y first)) is (has-power first);
     has_behind = λ i h prefix. absurd (omega (arith, prefix.above));
-    inside = λ p t.
-        ⊎_elim (λ (u : T (has x p)). absurd (not-in-none p (subst (λ (y : ℕ). T (has y p)) none u)))
-        (λ u. omega (arith, power-has first p u))
-        (has-or-cases x (2 ^ first) p (subst (λ (y : ℕ). T (has y p)) is t));
+    inside = λ p t. omega (arith, power-has first p (subst (λ (y : ℕ). T (has y p)) is t));
   }
 
   module _ (known : Known cells bodies) (p : ℕ) (some : 0 < p) (low : p < length cells) {first : ℕ} {set : List ℕ}
       (is : Wanting cells bodies first p set) where
     -- the place behind a prefix more
-    pub wanting-prefix : {set' : List ℕ} {to : ℕ} → get_or cells p 0 % 16 < 14 → to ≡ place_of [] bodies (get_or cells p 0 / 16 % 512)
-        → number_of set' ≡ bit_or (number_of set) (2 ^ to) → length set' ≡ 4 → Wanting cells bodies first (p + 1) set'
-    unfolding cell_at unpacked step_of place_of
-    wanting-prefix {set'} {to} kind leads more room = record {
+    pub wanting-prefix : {set' : List ℕ} {next to : ℕ} → (unpacked (get_or cells p 0)).kind < 14 → next ≡ (unpacked (get_or cells p 0)).left
+        → to ≡ place_of [] bodies next → number_of set' ≡ bit_or (number_of set) (2 ^ to) → length set' ≡ 4
+        → Wanting cells bodies first (p + 1) set'
+    unfolding cell_at step_of place_of
+    wanting-prefix {set'} {next} {to} kind is_next leads-to more room = record {
       room = room;
       has_first = kept first is.has_first;
       has_behind = λ i h prefix.
@@ -104,6 +111,9 @@ module _ (cells bodies : List ℕ) where
           (has-or-cases (number_of set) (2 ^ to) k (subst (λ (x : ℕ). T (has x k)) more t));
     }
       where
+        leads : to ≡ place_of [] bodies (unpacked (get_or cells p 0)).left
+        leads = leads-to ∙ ap (place_of [] bodies) is_next
+
         kept : (k : ℕ) → T (has (number_of set) k) → T (has (number_of set') k)
         kept k t = subst⁻¹ (λ (x : ℕ). T (has x k)) more (has-or-left (number_of set) (2 ^ to) k t)
 
@@ -115,18 +125,18 @@ module _ (cells bodies : List ℕ) where
         inside-to : to < length cells
         inside-to =
             subst⁻¹ (λ (x : ℕ). x < length cells) leads
-            (to_inside (get_or cells p 0 / 16 % 512) (behind-ends known p some low kind) known.some)
+            (to_inside (unpacked (get_or cells p 0)).left (behind-ends known p some low kind refl) known.some)
 
     -- a choice is no prefix
-    pub wanting-choice : 14 ≤ get_or cells p 0 % 16 → Wanting cells bodies first (p + 1) set
-    unfolding cell_at unpacked
+    pub wanting-choice : 14 ≤ (unpacked (get_or cells p 0)).kind → Wanting cells bodies first (p + 1) set
+    unfolding cell_at
     wanting-choice kind = record {
       room = is.room;
       has_first = is.has_first;
       has_behind = λ i h prefix.
           ⊎_elim
           (λ (e : i ≡ p).
-          let small : get_or cells p 0 % 16 < 14 = subst (λ (k : ℕ). get_or cells k 0 % 16 < 14) e prefix.kind in
+          let small : (unpacked (get_or cells p 0)).kind < 14 = subst (λ (k : ℕ). (unpacked (get_or cells k 0)).kind < 14) e prefix.kind in
           absurd (omega arith))
           (λ less. is.has_behind i less prefix)
           (eq-or-lt_of_le (omega arith));

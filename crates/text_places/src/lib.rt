@@ -8,8 +8,11 @@ ghost use Rattle.text.specs.Places.{Sense};
 ghost use Rattle.text.specs.Cells.{place_of, Explained};
 ghost use Rattle.text.specs.Tables.{PlaceTables};
 ghost use Rattle.text_ready.specs.Ready.{HeldAlways};
-ghost use Rattle.text_places.specs.Wanted.{Known, Wanting};
-ghost use Rattle.text_places.specs.Filled.{Rooms, FilledPlace, Filling};
+ghost use Rattle.text_places.specs.Filled.{Rooms};
+ghost use Rattle.text_places.specs.Lent.{SameTables, KnownParts, WantingOf, FilledPlaceIn, FillingIn};
+
+use place_sets::PlaceSet;
+use text::Cell;
 
 // Above all places: a link from here on leads to the body of a rec.
 const PLACES: u16 = 256;
@@ -37,151 +40,97 @@ pub fn place_of(bodies: &[u16], link: u16) -> u8
     }
 }
 
-// The place directly behind a prefix put to the wanted ones. A choice leads to none.
-fn want_behind(cells: &[u32], bodies: &[u16], p: usize, wanted: &mut [u64])
-    requires { Known cells.now bodies.now × (0 < p) × (p < length cells.now) × (length wanted.old ≡ 4) }
-    ensures { (first : ℕ) → Wanting cells.now bodies.now first p wanted.old
-        → Wanting cells.now bodies.now first (p + 1) wanted.new }
-{
-    let cell = cells[p];
-    if cell % 16 < 14 {
-        place_sets::add_place(wanted, place_of(bodies, (cell / 16 % 512) as u16));
-    }
+// The parts of a term: the cells of its places, and what leads to the bodies of its recs.
+// That they are known is a clause of each function: what tells it is data, and a ghost field takes facts alone.
+#[derive(Clone, Copy)]
+struct Parts<'a> {
+    cells: &'a [u32],
+    bodies: &'a [u16],
 }
 
-// The first place and all that are directly behind prefixes, in an empty set.
-fn want(cells: &[u32], bodies: &[u16], first: u8, wanted: &mut [u64])
-    requires { Known cells.now bodies.now × (first < length cells.now) × (length wanted.old ≡ 4)
-        × (number_of wanted.old ≡ 0) }
-    ensures { Wanting cells.now bodies.now first (length cells.now) wanted.new }
-{
-    place_sets::add_place(wanted, first);
-    let mut p: usize = 1;
-    while p < cells.len() {
-        want_behind(cells, bodies, p, wanted);
-        p = p + 1;
+impl Parts<'_> {
+    // The first place and all that are directly behind prefixes. A choice leads to none.
+    fn wanted(&self, first: u8) -> PlaceSet
+        requires known { KnownParts self.now }
+        requires inside { first < length self.now.cells.now }
+        ensures { WantingOf self.now first (length self.now.cells.now) result.0 }
+    {
+        let mut wanted = PlaceSet::alone(first);
+        for p in 1..self.cells.len() {
+            if let Cell::Prefix { next, .. } = Cell::from(self.cells[p]) {
+                place_sets::add_place(&mut wanted.0, place_of(self.bodies, next));
+            }
+        }
+        wanted
     }
 }
 
 // ---- the tables
 
-// What is kept of one place.
-fn fill_place(
-    cells: &[u32],
-    bodies: &[u16],
-    held: &[u64],
-    p: usize,
-    sizes: &mut [u8],
-    masks: &mut [u16],
-    prefixes: &mut [u64],
-)
-    requires { Known cells.now bodies.now × (p < length cells.now) × Rooms sizes.old masks.old prefixes.old
-        × (set_at prefixes.old p ≡ 0) × HeldAlways cells.now bodies.now held.now }
-    ensures { FilledPlace cells.now bodies.now p sizes.old masks.old
-        prefixes.old sizes.new masks.new prefixes.new }
-{
-    sizes[p] = text_ready::put_ready(cells, bodies, held, p as u16, &mut masks[8 * p..]);
-    text_steps::put_prefixes(cells, bodies, p as u16, &mut prefixes[4 * p..4 * p + 4]);
+// What is kept of the places: how many ready sets each has, these, and its prefixes.
+#[derive(Drop)]
+struct Tables<'a> {
+    sizes: &'a mut [u8],
+    masks: &'a mut [u16],
+    prefixes: &'a mut [u64],
 }
 
-// The same if a set has the place.
-fn fill_if(
-    cells: &[u32],
-    bodies: &[u16],
-    held: &[u64],
-    wanted: &[u64],
-    p: usize,
-    sizes: &mut [u8],
-    masks: &mut [u16],
-    prefixes: &mut [u64],
-)
-    requires { Known cells.now bodies.now × (p < length cells.now) × (length wanted.now ≡ 4)
-        × Filling cells.now bodies.now wanted.now p sizes.old masks.old prefixes.old
-        × HeldAlways cells.now bodies.now held.now }
-    ensures { Filling cells.now bodies.now wanted.now (p + 1)
-        sizes.new masks.new prefixes.new }
-{
-    if place_sets::has_place(wanted, p as u8) {
-        fill_place(cells, bodies, held, p, sizes, masks, prefixes);
+impl Tables<'_> {
+    // What is kept of one place.
+    fn fill_place(&mut self, parts: &Parts, held: &[u64], p: usize)
+        requires known { KnownParts parts.now }
+        requires inside { p < length parts.now.cells.now }
+        requires rooms { Rooms self.old.sizes.now self.old.masks.now self.old.prefixes.now }
+        requires none { set_at self.old.prefixes.now p ≡ 0 }
+        requires held { HeldAlways parts.now.cells.now parts.now.bodies.now held.now }
+        ensures same { SameTables self.old self.new }
+        ensures filled { FilledPlaceIn parts.now p self.old self.new }
+    {
+        let place = p as u16;
+        let size = text_ready::put_ready(
+            parts.cells,
+            parts.bodies,
+            held,
+            place,
+            &mut self.masks[8 * p..],
+        );
+        self.sizes[p] = size;
+        text_steps::put_prefixes(
+            parts.cells,
+            parts.bodies,
+            place,
+            &mut self.prefixes[4 * p..4 * p + 4],
+        );
     }
-}
 
-// The same for every place of a set.
-fn fill_wanted(
-    cells: &[u32],
-    bodies: &[u16],
-    held: &[u64],
-    wanted: &[u64],
-    sizes: &mut [u8],
-    masks: &mut [u16],
-    prefixes: &mut [u64],
-)
-    requires { Known cells.now bodies.now × (length wanted.now ≡ 4)
-        × Filling cells.now bodies.now wanted.now 0 sizes.old masks.old prefixes.old
-        × HeldAlways cells.now bodies.now held.now }
-    ensures { Filling cells.now bodies.now wanted.now (length cells.now)
-        sizes.new masks.new prefixes.new }
-{
-    let mut p: usize = 0;
-    while p < cells.len() {
-        fill_if(cells, bodies, held, wanted, p, sizes, masks, prefixes);
-        p = p + 1;
+    // The same for every place of a set.
+    fn fill_wanted(&mut self, parts: &Parts, held: &[u64], wanted: &PlaceSet)
+        requires known { KnownParts parts.now }
+        requires start { FillingIn parts.now wanted.now.0 0 self.old }
+        requires held { HeldAlways parts.now.cells.now parts.now.bodies.now held.now }
+        ensures same { SameTables self.old self.new }
+        ensures filled { FillingIn parts.now wanted.now.0 (length parts.now.cells.now) self.new }
+    {
+        for p in 0..parts.cells.len() {
+            if place_sets::has_place(&wanted.0, p as u8) {
+                self.fill_place(parts, held, p);
+            }
+        }
     }
-}
 
-// ---- with families of bodies held
-
-// The same for every place of a set, with the families of the bodies of the first recs, as many as there is room for.
-fn fill_with(
-    cells: &[u32],
-    bodies: &[u16],
-    held: &mut [u64],
-    wanted: &[u64],
-    sizes: &mut [u8],
-    masks: &mut [u16],
-    prefixes: &mut [u64],
-)
-    requires { Known cells.now bodies.now × (length held.old ≤ 256 * length bodies.now) × (length wanted.now ≡ 4)
-        × Filling cells.now bodies.now wanted.now 0 sizes.old masks.old prefixes.old }
-    ensures { Filling cells.now bodies.now wanted.now (length cells.now)
-        sizes.new masks.new prefixes.new }
-{
-    text_ready::hold_bodies(cells, bodies, held);
-    fill_wanted(cells, bodies, held, wanted, sizes, masks, prefixes);
-}
-
-// Of how many recs the families of bodies are held: 32 at most.
-fn recs_held(recs: usize) -> usize
-    ensures { result ≡ min 32 recs }
-{
-    if recs < MOST { recs } else { MOST }
-}
-
-// The same for every place of a set, with room for the families of the bodies of 32 recs.
-fn fill_held(
-    cells: &[u32],
-    bodies: &[u16],
-    wanted: &[u64],
-    sizes: &mut [u8],
-    masks: &mut [u16],
-    prefixes: &mut [u64],
-)
-    requires { Known cells.now bodies.now × (length wanted.now ≡ 4)
-        × Filling cells.now bodies.now wanted.now 0 sizes.old masks.old prefixes.old }
-    ensures { Filling cells.now bodies.now wanted.now (length cells.now)
-        sizes.new masks.new prefixes.new }
-{
-    let mut held = [0u64; 8192];
-    let n = recs_held(bodies.len());
-    fill_with(
-        cells,
-        bodies,
-        &mut held[0..WORDS * n],
-        wanted,
-        sizes,
-        masks,
-        prefixes,
-    );
+    // The same with the families of the bodies of the first recs, 32 at most.
+    fn fill_held(&mut self, parts: &Parts, wanted: &PlaceSet)
+        requires known { KnownParts parts.now }
+        requires start { FillingIn parts.now wanted.now.0 0 self.old }
+        ensures same { SameTables self.old self.new }
+        ensures filled { FillingIn parts.now wanted.now.0 (length parts.now.cells.now) self.new }
+    {
+        let mut all = [0u64; MOST * WORDS];
+        let n = parts.bodies.len().min(MOST);
+        let held = &mut all[..WORDS * n];
+        text_ready::hold_bodies(parts.cells, parts.bodies, held);
+        self.fill_wanted(parts, held, wanted);
+    }
 }
 
 // The places that can be in a state, and what is kept of each.
@@ -199,11 +148,16 @@ pub fn fill_places(
     ensures { PlaceTables cells.now bodies.now first sizes.new masks.new
         prefixes.new }
 {
-    let mut wanted = [0u64; 4];
-    want(cells, bodies, first, &mut wanted);
+    let parts = Parts { cells, bodies };
+    let wanted = parts.wanted(first);
+    let mut tables = Tables {
+        sizes,
+        masks,
+        prefixes,
+    };
     if bodies.len() < FEW {
-        fill_wanted(cells, bodies, &[], &wanted, sizes, masks, prefixes);
+        tables.fill_wanted(&parts, &[], &wanted);
     } else {
-        fill_held(cells, bodies, &wanted, sizes, masks, prefixes);
+        tables.fill_held(&parts, &wanted);
     }
 }

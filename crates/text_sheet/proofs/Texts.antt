@@ -5,29 +5,27 @@ use mathlib.Core.Path.{◌≡◌, refl, sym, ap, subst, subst⁻¹, ◌∙◌}
 use mathlib.Core.Bool.{Bool, true, false, not, true≢false}
 use mathlib.Core.Logic.{inl, inr}
 use mathlib.Core.List.{List, [], ◌∷◌, map}
-use mathlib.Core.Option.{Option, none, some, Option-elim}
+use mathlib.Core.Option.{none, some, Option-elim}
 use Prim.Native.Nat.{ℕ, ◌+◌, ◌-◌, ◌^◌, ◌≤◌, ◌<◌}
 use native.Mathlib.Omega.{arith}
-use lib.ListN.{length, get_or, take, length-take}
+use lib.ListN.{length, get_or, take}
 use lib.Dec.{ltb}
 use borrow.Author.Tests.{le-leb, lt-leb, ltb-true, ltb-false}
 use Rattle.model.specs.Sheet.{check, then, plain}
 use Rattle.model.proofs.Lists.{keep-length}
-use Rattle.nodes.specs.Answer.{written, written_by}
+use Rattle.nodes.specs.Answer.{written, written_as}
 use Rattle.nodes.specs.Filled.{found_into}
-use Rattle.nodes.specs.declared.SheetAnswer.{SheetAnswer}
-use Rattle.nodes.proofs.Answering.{refusing}
 use Rattle.text.specs.Grammar.{Tree, whole, Text}
 use Rattle.text.specs.Terms.{term_of, Faulty}
 use Rattle.text.specs.Parser.{Parse, failed, parsed, parse_of}
 use Rattle.text.specs.Places.{size_of, places_of, first_place, ready_sets, next_places, contract_of_term}
 use Rattle.text.specs.Convert.{is_blank, dropped, place_of_byte, wrong_at, most_deep, bound_tree, tree_read, read_text, without_byte, byte_at_fault, text_of, text_sheet, text_into, text_fault_of}
 use Rattle.text.specs.Cells.{packed, cells_in, recs_of, link_to, no_owners, cell_numbers, body_links, place_of, Ends, Explained}
-use Rattle.text_reading.specs.Reading.{or_none, WholeRead, TextRead}
-use Rattle.text_reading.specs.declared.Read.{Read}
+use Rattle.text_reading.specs.Reading.{Standing, WholeRead, TextRead}
+use Rattle.text_sheet.specs.Refusals.{refusal_of, fault_of, Refuses, TermRead}
+use Rattle.text_sheet.specs.declared.Refusal.TheVariants.{TooLong, NoText, AtFault}
 use Rattle.text.proofs.Parse.{sound, read}
 use Rattle.text.proofs.Variables.{none-wrong}
-use Rattle.text.proofs.Uses.{first-fault, letter}
 use Rattle.text.proofs.Blanks.{place_inside, place-beyond}
 use Rattle.text.proofs.Widths.{few_places}
 use Rattle.text.proofs.Derived.{names-below, actions-below, few_recs}
@@ -35,46 +33,54 @@ use Rattle.text.proofs.Substitution.{closed}
 use Rattle.text_places.proofs.Wanting.{to_inside}
 use Rattle.text.proofs.Explained.{explained, first-link, first_ends}
 
-pub long-fault : (s : List ℕ) → 256 < length s → 0 ≡ text_fault_of s
-unfolding text_fault_of read_text byte_at_fault check
-long-fault s h = rw (lt-leb (length s) 256 h) refl
+-- a place in the text is not behind its end
+place-most : (s : List ℕ) (i : ℕ) → place_of_byte s i ≤ length s
+place-most s i = go (ltb i (length (dropped s))) refl
+  where
+    go : (b : Bool) → ltb i (length (dropped s)) ≡ b → place_of_byte s i ≤ length s
+    go true e = omega (arith, place_inside s i (ltb-true i (length (dropped s)) e))
+    go false e = omega (arith, place-beyond s i (ltb-false i (length (dropped s)) e))
 
-module _ (s out : List ℕ) where
-  -- 1, with sheet 1
-  pub long-answer : 256 < length s → {r : SheetAnswer} → r ≡ record { number = 1; sheet = 1; state = 0; length = 0 }
-      → written_by r out ≡ text_into s out
-  unfolding written_by text_into text_sheet text_of read_text without_byte written then check plain
-  long-answer h e = rw (e, lt-leb (length s) 256 h) refl
+-- ---- what is answered, and which byte is at fault
 
-  module _ (short : length s ≤ 256) where
-    -- 22
-    pub stopped-answer : {x : List ℕ} → parse_of 16 (dropped s) ≡ failed x → {r : SheetAnswer} → r ≡ refusing 22 → written_by r out ≡ text_into s out
-    unfolding written_by text_into text_sheet text_of read_text tree_read most_deep without_byte written then check plain
-    stopped-answer is e = rw (e, le-leb (length s) 256 short, is) refl
+-- 1, with sheet 1
+pub long-refused : (s : List ℕ) → 256 < length s → Refuses s TooLong
+unfolding refusal_of fault_of written_as text_into text_sheet text_of text_fault_of read_text without_byte byte_at_fault written then check plain
+long-refused s h = record {
+  says = λ out. rw (lt-leb (length s) 256 h) refl;
+  fault = rw (lt-leb (length s) 256 h) refl;
+  small = omega arith;
+}
 
-    pub stopped-fault : {x : List ℕ} → parse_of 16 (dropped s) ≡ failed x → place_of_byte s (length (dropped s) - length x) ≡ text_fault_of s
-    unfolding text_fault_of read_text tree_read most_deep byte_at_fault check
-    stopped-fault is = rw (le-leb (length s) 256 short, is) refl
+module _ (s : List ℕ) (short : length s ≤ 256) where
+  -- 22
+  pub stopped-refused : {x : List ℕ} → parse_of 16 (dropped s) ≡ failed x → {at : ℕ} → at ≡ length (dropped s) - length x → Refuses s (NoText at)
+  unfolding refusal_of fault_of written_as text_into text_sheet text_of text_fault_of read_text tree_read most_deep without_byte byte_at_fault written then check plain
+  stopped-refused is {at} e = record {
+    says = λ out. rw (le-leb (length s) 256 short, is) refl;
+    fault = rw (le-leb (length s) 256 short, is) (ap (place_of_byte s) e);
+    small = omega (arith, place-most s at);
+  }
 
-    module _ {t : Tree} {x : List ℕ} (is : parse_of 16 (dropped s) ≡ parsed t x) where
-      -- 23
-      pub wrong_answer : {i : ℕ} → wrong_at [] [] 0 t ≡ some i → {r : SheetAnswer} → r ≡ refusing 23 → written_by r out ≡ text_into s out
-      unfolding written_by text_into text_sheet text_of read_text tree_read bound_tree most_deep without_byte written then check plain Option-elim
-      wrong_answer w e = rw (e, le-leb (length s) 256 short, is, w) refl
+  module _ {t : Tree} {x : List ℕ} (is : parse_of 16 (dropped s) ≡ parsed t x) where
+    -- 23
+    pub wrong-refused : {i : ℕ} → wrong_at [] [] 0 t ≡ some i → Refuses s (AtFault i)
+    unfolding refusal_of fault_of written_as text_into text_sheet text_of text_fault_of read_text tree_read bound_tree most_deep without_byte byte_at_fault written then check plain Option-elim
+    wrong-refused {i} w = record {
+      says = λ out. rw (le-leb (length s) 256 short, is, w) refl;
+      fault = rw (le-leb (length s) 256 short, is, w) refl;
+      small = omega (arith, place-most s i);
+    }
 
-      pub wrong-fault : {i : ℕ} → wrong_at [] [] 0 t ≡ some i → place_of_byte s i ≡ text_fault_of s
-      unfolding text_fault_of read_text tree_read bound_tree most_deep byte_at_fault check Option-elim
-      wrong-fault w = rw (le-leb (length s) 256 short, is, w) refl
+    -- the states of the term decide
+    pub right_answer : wrong_at [] [] 0 t ≡ none → (out : List ℕ)
+        → found_into (next_places (places_of (term_of t))) (ready_sets (places_of (term_of t))) (2 ^ first_place (term_of t)) 7 out ≡ text_into s out
+    unfolding found_into contract_of_term text_into text_sheet text_of read_text tree_read bound_tree most_deep without_byte written then check Option-elim
+    right_answer w out = rw (le-leb (length s) 256 short, is, w) refl
 
-      -- the states of the term decide
-      pub right_answer : wrong_at [] [] 0 t ≡ none
-          → found_into (next_places (places_of (term_of t))) (ready_sets (places_of (term_of t))) (2 ^ first_place (term_of t)) 7 out ≡ text_into s out
-      unfolding found_into contract_of_term text_into text_sheet text_of read_text tree_read bound_tree most_deep without_byte written then check Option-elim
-      right_answer w = rw (le-leb (length s) 256 short, is, w) refl
-
-      pub right-fault : wrong_at [] [] 0 t ≡ none → 0 ≡ text_fault_of s
-      unfolding text_fault_of read_text tree_read bound_tree most_deep byte_at_fault check Option-elim
-      right-fault w = rw (le-leb (length s) 256 short, is, w) refl
+    pub right-fault : wrong_at [] [] 0 t ≡ none → 0 ≡ text_fault_of s
+    unfolding text_fault_of read_text tree_read bound_tree most_deep byte_at_fault check Option-elim
+    right-fault w = rw (le-leb (length s) 256 short, is, w) refl
 
 -- ---- the cells of a text with no variable at fault
 
@@ -116,140 +122,97 @@ module _ (s : List ℕ) (short : length s ≤ 256) {t : Tree} {x : List ℕ} (is
 
 -- ---- what the reader's answer says
 
--- a place in the text is not behind its end
-pub place-most : (s : List ℕ) (i : ℕ) → place_of_byte s i ≤ length s
-place-most s i = go (ltb i (length (dropped s))) refl
-  where
-    go : (b : Bool) → ltb i (length (dropped s)) ≡ b → place_of_byte s i ≤ length s
-    go true e = omega (arith, place_inside s i (ltb-true i (length (dropped s)) e))
-    go false e = omega (arith, place-beyond s i (ltb-false i (length (dropped s)) e))
-
 -- Of a text with no variable at fault: the cells that were read, what leads to the first place, and what the states decide.
-pub record RightCells (s : List ℕ) (r : Read) (cells bodies : List ℕ) (t : Tree) : Type 0 where
-  pub fits : (r.places ≤ 255) × (r.recs ≤ 51)
-  pub explained-by : Explained (take (1 + r.places) cells) (take r.recs bodies) (places_of (term_of t))
-  pub first-place : place_of [] (take r.recs bodies) r.link ≡ first_place (term_of t)
-  pub first-ends-at : Ends (take (1 + r.places) cells) (take r.recs bodies) (length (take r.recs bodies)) r.link
+pub record RightCells (s : List ℕ) (to : Standing) (cells bodies : List ℕ) (t : Tree) : Type 0 where
+  pub fits : (to.places ≤ 255) × (to.recs ≤ 51)
+  pub explained-by : Explained (take (1 + to.places) cells) (take to.recs bodies) (places_of (term_of t))
+  pub first-place : place_of [] (take to.recs bodies) to.link ≡ first_place (term_of t)
+  pub first-ends-at : Ends (take (1 + to.places) cells) (take to.recs bodies) (length (take to.recs bodies)) to.link
   pub right_is : (out : List ℕ)
       → found_into (next_places (places_of (term_of t))) (ready_sets (places_of (term_of t))) (2 ^ first_place (term_of t)) 7 out ≡ text_into s out
+  pub no_fault : 0 ≡ text_fault_of s
 
-module _ (s : List ℕ) (short : length s ≤ 256) {cells : List ℕ} {r : Read} {cells' bodies' : List ℕ} (was : TextRead (dropped s) cells r cells' bodies') where
+module _ (s : List ℕ) (short : length s ≤ 256) {cells : List ℕ} {to : Standing} {cells' bodies' : List ℕ}
+    (was : TextRead (dropped s) cells to cells' bodies') where
   -- no text
-  pub read-stopped : r.ok ≡ false → (x : List ℕ) × (parse_of 16 (dropped s) ≡ failed x) × (r.at ≡ length (dropped s) - length x)
+  pub read-stopped : to.ok ≡ false → Refuses s (NoText to.at)
   unfolding most_deep
   read-stopped not_ok = go (parse_of 16 (dropped s)) refl
     where
-      go : (p : Parse) → parse_of 16 (dropped s) ≡ p → (x : List ℕ) × (parse_of 16 (dropped s) ≡ failed x) × (r.at ≡ length (dropped s) - length x)
-      go (failed x) e = (x, e, (was.unread x e).1)
+      go : (p : Parse) → parse_of 16 (dropped s) ≡ p → Refuses s (NoText to.at)
+      go (failed x) e = stopped-refused s short e (was.unread x e).1
       go (parsed t x) e = absurd (true≢false (sym (was.read t x e).is_ok ∙ not_ok))
 
   -- a text
-  pub read_whole : r.ok ≡ true → (t : Tree) × (x : List ℕ) × (parse_of 16 (dropped s) ≡ parsed t x) × WholeRead cells t x r cells' bodies'
+  read_whole : to.ok ≡ true → (t : Tree) × (x : List ℕ) × (parse_of 16 (dropped s) ≡ parsed t x) × WholeRead cells t x to cells' bodies'
   unfolding most_deep
   read_whole is = go (parse_of 16 (dropped s)) refl
     where
       go : (p : Parse) → parse_of 16 (dropped s) ≡ p
-          → (t : Tree) × (x : List ℕ) × (parse_of 16 (dropped s) ≡ parsed t x) × WholeRead cells t x r cells' bodies'
+          → (t : Tree) × (x : List ℕ) × (parse_of 16 (dropped s) ≡ parsed t x) × WholeRead cells t x to cells' bodies'
       go (failed x) e = absurd (true≢false (sym is ∙ (was.unread x e).0))
       go (parsed t x) e = (t, x, e, was.read t x e)
 
-  -- a variable at fault, or none: the number says which
-  pub read-wrong : r.ok ≡ true → (r.wrong ≡ 256 → ⊥)
-      → (t : Tree) × (x : List ℕ) × (parse_of 16 (dropped s) ≡ parsed t x) × (wrong_at [] [] 0 t ≡ some r.wrong)
-  unfolding or_none
-  read-wrong is_ok wrong =
-      let w = read_whole is_ok in
-      (w.0, w.1, w.2, go (wrong_at [] [] 0 w.0) refl w.3.wrong_is)
-    where
-      go : (o : Option ℕ) {q : Option ℕ} → q ≡ o → r.wrong ≡ or_none q → q ≡ some r.wrong
-      go none e is = absurd (wrong (is ∙ ap or_none e))
-      go (some i) e is = e ∙ ap some (sym (is ∙ ap or_none e))
+  -- a variable at fault
+  pub read-wrong : to.ok ≡ true → {i : ℕ} → to.wrong ≡ some i → Refuses s (AtFault i)
+  read-wrong is_ok wrong = let w = read_whole is_ok in wrong-refused s short w.2 (sym w.3.wrong_is ∙ wrong)
 
-  pub read_right : r.ok ≡ true → r.wrong ≡ 256
-      → (t : Tree) × (x : List ℕ) × (parse_of 16 (dropped s) ≡ parsed t x) × (wrong_at [] [] 0 t ≡ none) × WholeRead cells t x r cells' bodies'
-  unfolding or_none
-  read_right is_ok right =
-      let w = read_whole is_ok in
-      (w.0, w.1, w.2, go w.0 w.1 w.2 (wrong_at [] [] 0 w.0) refl w.3.wrong_is, w.3)
-    where
-      go : (t : Tree) (x : List ℕ) → parse_of 16 (dropped s) ≡ parsed t x → (o : Option ℕ) → wrong_at [] [] 0 t ≡ o
-          → r.wrong ≡ or_none (wrong_at [] [] 0 t) → wrong_at [] [] 0 t ≡ none
-      go t x is none e w = e
-      go t x is (some i) e w =
-          let f = first-fault t i e in
-          let k = letter whole t (dropped s) f.0 i (read-derived s is) f.1.here in
-          absurd (omega (arith, k.0, dropped-short s short, sym right ∙ w ∙ ap or_none e))
-
-  -- answers
-  pub stopped-is : (out : List ℕ) → r.ok ≡ false → {a : SheetAnswer} → a ≡ refusing 22 → written_by a out ≡ text_into s out
-  stopped-is out not_ok e = stopped-answer s out short (read-stopped not_ok).1 e
-
-  pub wrong-is-answer : (out : List ℕ) → r.ok ≡ true → (r.wrong ≡ 256 → ⊥) → {a : SheetAnswer} → a ≡ refusing 23 → written_by a out ≡ text_into s out
-  wrong-is-answer out is_ok wrong e = let w = read-wrong is_ok wrong in wrong_answer s out short w.2 w.3 e
-
-  pub right-cells : r.ok ≡ true → r.wrong ≡ 256 → get_or cells 0 0 ≡ 0 → (t : Tree) × RightCells s r cells' bodies' t
+  -- none
+  pub right-cells : to.ok ≡ true → to.wrong ≡ none → get_or cells 0 0 ≡ 0 → (t : Tree) × RightCells s to cells' bodies' t
   unfolding cell_numbers place_of
   right-cells is_ok right zero-first =
-      let w = read_right is_ok right in
-      let k = w.4 in
-      let cells_same : take (1 + r.places) cells' ≡ cell_numbers (term_of w.0) =
+      let w = read_whole is_ok in
+      let k = w.3 in
+      let none-at : wrong_at [] [] 0 w.0 ≡ none = sym k.wrong_is ∙ right in
+      let cells_same : take (1 + to.places) cells' ≡ cell_numbers (term_of w.0) =
       k.cells_are ∙ ap (λ (x : ℕ). x ∷ map packed (cells_in no_owners 0 0 (term_of w.0))) zero-first in (
         w.0,
         record {
           fits = (
-            subst⁻¹ (λ (n : ℕ). n ≤ 255) k.places_are (few-cells s short w.2 w.3),
-            subst⁻¹ (λ (n : ℕ). n ≤ 51) k.recs_are (few-bodies s short w.2 w.3),
+            subst⁻¹ (λ (n : ℕ). n ≤ 255) k.places_are (few-cells s short w.2 none-at),
+            subst⁻¹ (λ (n : ℕ). n ≤ 51) k.recs_are (few-bodies s short w.2 none-at),
           );
           explained-by =
-              subst⁻¹ (λ (c : List ℕ). Explained c (take r.recs bodies') (places_of (term_of w.0))) cells_same
+              subst⁻¹ (λ (c : List ℕ). Explained c (take to.recs bodies') (places_of (term_of w.0))) cells_same
               (subst⁻¹ (λ (b : List ℕ). Explained (cell_numbers (term_of w.0)) b (places_of (term_of w.0))) k.bodies_are
-              (cells-explained s short w.2 w.3));
+              (cells-explained s short w.2 none-at));
           first-place =
-              subst⁻¹ (λ (b : List ℕ). place_of [] b r.link ≡ first_place (term_of w.0)) k.bodies_are
+              subst⁻¹ (λ (b : List ℕ). place_of [] b to.link ≡ first_place (term_of w.0)) k.bodies_are
               (subst⁻¹ (λ (l : ℕ). place_of [] (body_links (term_of w.0)) l ≡ first_place (term_of w.0)) k.link_is
-              (first-is s short w.2 w.3));
+              (first-is s short w.2 none-at));
           first-ends-at =
-              subst⁻¹ (λ (c : List ℕ). Ends c (take r.recs bodies') (length (take r.recs bodies')) r.link) cells_same
-              (subst⁻¹ (λ (b : List ℕ). Ends (cell_numbers (term_of w.0)) b (length b) r.link) k.bodies_are
+              subst⁻¹ (λ (c : List ℕ). Ends c (take to.recs bodies') (length (take to.recs bodies')) to.link) cells_same
+              (subst⁻¹ (λ (b : List ℕ). Ends (cell_numbers (term_of w.0)) b (length b) to.link) k.bodies_are
               (subst⁻¹ (λ (l : ℕ). Ends (cell_numbers (term_of w.0)) (body_links (term_of w.0)) (length (body_links (term_of w.0))) l)
-              k.link_is (first-followed s short w.2 w.3)));
-          right_is = λ out. right_answer s out short w.2 w.3;
+              k.link_is (first-followed s short w.2 none-at)));
+          right_is = right_answer s short w.2 none-at;
+          no_fault = right-fault s short w.2 none-at;
         },
       )
 
-  -- the byte at fault
-  pub fault-stopped : r.ok ≡ false → place_of_byte s r.at ≡ text_fault_of s
-  fault-stopped not_ok = let w = read-stopped not_ok in ap (place_of_byte s) w.2 ∙ stopped-fault s s short w.1
-
-  pub fault-wrong : r.ok ≡ true → (r.wrong ≡ 256 → ⊥) → place_of_byte s r.wrong ≡ text_fault_of s
-  fault-wrong is_ok wrong = let w = read-wrong is_ok wrong in wrong-fault s s short w.2 w.3
-
-  pub fault-none : r.ok ≡ true → r.wrong ≡ 256 → 0 ≡ text_fault_of s
-  fault-none is_ok right = let w = read_right is_ok right in right-fault s s short w.2 w.3
-
-module _ {s : List ℕ} {r : Read} {cells bodies : List ℕ} {t : Tree} (right : RightCells s r cells bodies t) {first : ℕ}
-    (is-first : first ≡ place_of [] (take r.recs bodies) r.link) where
-  -- the first place has a cell
-  pub first-inside : first < length (take (1 + r.places) cells)
-  unfolding place_of places_of
-  first-inside =
-      subst⁻¹ (λ (p : ℕ). p < length (take (1 + r.places) cells)) is-first
-      (to_inside (take (1 + r.places) cells) (take r.recs bodies) r.link right.first-ends-at
-      (subst (λ (n : ℕ). 0 < n) right.explained-by.as_many (omega arith)))
-
-  -- the states from the first place on decide
-  pub right-found : (out : List ℕ)
-      → found_into (next_places (places_of (term_of t))) (ready_sets (places_of (term_of t))) (2 ^ first) 7 out ≡ text_into s out
-  right-found out =
-      ap (λ (p : ℕ). found_into (next_places (places_of (term_of t))) (ready_sets (places_of (term_of t))) (2 ^ p) 7 out)
-      (is-first ∙ right.first-place)
-      ∙ right.right_is out
-
--- the bodies of its recs are few
-pub bodies-held : {s : List ℕ} {r : Read} {cells bodies : List ℕ} {t : Tree} → RightCells s r cells bodies t → length (take r.recs bodies) ≤ 64
-bodies-held {r = r} {bodies = bodies} right = omega (arith, right.fits.1, length-take r.recs bodies)
+-- a term as the code keeps it
+pub term-read : {s : List ℕ} {to : Standing} {cells bodies : List ℕ} {t : Tree} → RightCells s to cells bodies t → {first : ℕ}
+    → first ≡ place_of [] (take to.recs bodies) to.link
+    → TermRead s (record { cells = cells; bodies = bodies; places = to.places; recs = to.recs; first = first })
+unfolding place_of places_of
+term-read {s} {to} {cells} {bodies} {t} right {first} is-first =
+    record {
+      senses = places_of (term_of t);
+      few_places = right.fits.0;
+      few_recs = omega (arith, right.fits.1);
+      explained = right.explained-by;
+      inside =
+          subst⁻¹ (λ (p : ℕ). p < length (take (1 + to.places) cells)) is-first
+          (to_inside (take (1 + to.places) cells) (take to.recs bodies) to.link right.first-ends-at
+          (subst (λ (n : ℕ). 0 < n) right.explained-by.as_many (omega arith)));
+      decided = λ out.
+          ap (λ (p : ℕ). found_into (next_places (places_of (term_of t))) (ready_sets (places_of (term_of t))) (2 ^ p) 7 out)
+          (is-first ∙ right.first-place)
+          ∙ right.right_is out;
+      no_fault = right.no_fault;
+    }
 
 -- what is left for a text is left for an equal one
-pub text-read-is : {x y cells : List ℕ} {r : Read} {cells' bodies' : List ℕ} → x ≡ y → TextRead x cells r cells' bodies'
-    → TextRead y cells r cells' bodies'
-text-read-is {cells = cells} {r = r} {cells' = cells'} {bodies' = bodies'} e was = subst (λ (z : List ℕ). TextRead z cells r cells' bodies') e was
+pub text-read-is : {x y cells : List ℕ} {to : Standing} {cells' bodies' : List ℕ} → x ≡ y → TextRead x cells to cells' bodies'
+    → TextRead y cells to cells' bodies'
+text-read-is {cells = cells} {to = to} {cells' = cells'} {bodies' = bodies'} e was = subst (λ (z : List ℕ). TextRead z cells to cells' bodies') e was

@@ -1,23 +1,21 @@
 // Contracts typed as text, converted into ordinary sheets: the entry points. Request 7/13, "Contracts typed as text".
 #![tactic(auto)]
 
-ghost use Rattle.std.specs.Prelude.{◌≡◌, List, ◌^◌, ◌≤◌, ◌<◌, length};
-ghost use Rattle.nodes.specs.Answer.{written_by};
-ghost use Rattle.nodes.specs.Filled.{found_into};
-ghost use Rattle.text.specs.Places.{Sense, ready_sets, next_places};
-ghost use Rattle.text.specs.Cells.{Explained};
-ghost use Rattle.text.specs.Convert.{dropped, text_into, text_fault_of};
-ghost use Rattle.text_reading.specs.Reading.{TextRead};
+ghost use Rattle.std.specs.Prelude.{◌≡◌, List, ℕ, MatchResult};
+ghost use Rattle.nodes.specs.Answer.{written_by, written_as, refused_as};
+ghost use Rattle.nodes.specs.Answer.{refusal_of as states_refused};
+ghost use Rattle.text.specs.Convert.{text_into, text_fault_of};
+ghost use Rattle.text_sheet.specs.declared.Refusal.TheVariants.{NoText, NoSheet};
+ghost use Rattle.text_sheet.specs.Refusals.{refusal_of, Refuses, TermRead};
 
 use nodes::SheetAnswer;
 use nodes::found::refused;
-use text_reading::Read;
+use nodes::search::Known;
+use text_reading::Stopped;
+use text_states::Text;
 
 // "256 bytes in all".
 const LONGEST: usize = 256;
-
-// No variable is at fault.
-const NONE: u16 = 256;
 
 // Cells at most: that of the end, and one for each byte.
 const CELLS: usize = 257;
@@ -25,54 +23,127 @@ const CELLS: usize = 257;
 // Recs at most; each has five bytes.
 const RECS: usize = 64;
 
-// A text of at most 256 bytes read into cells, blanks dropped.
-fn read_cells(text: &[u8], cells: &mut [u32], bodies: &mut [u16]) -> Read
-    requires { (length text.now ≤ 256) × (length cells.old ≡ 257) × (length bodies.old ≡ 64) }
-    ensures { TextRead (dropped text.now) cells.old result cells.new bodies.new }
-{
-    let mut bytes = [0u8; LONGEST];
-    let count = text_reading::strip(text, &mut bytes);
-    text_reading::read_text(&bytes[..count], cells, bodies)
+// ---- refusals
+
+// Why there is no sheet of a text. Bytes are counted without blanks.
+#[derive(Clone, Copy, Debug, PartialEq, Eq)]
+enum Refusal {
+    // 1, with sheet 1: it has more than 256 bytes.
+    TooLong,
+    // 22: no derivation can go on at this byte.
+    NoText { at: usize },
+    // 23: the variable at this byte is at fault.
+    AtFault { at: usize },
+    // 19, 20 or 13: there is no sheet of its states.
+    NoSheet(nodes::Refusal),
 }
 
-// The sheet of the states that cells give, over seven names, at the front of the lent output, or refusal 19, 20 or 13.
-fn convert_cells(cells: &[u32], bodies: &[u16], first: u8, sheet: &mut [u8]) -> SheetAnswer
-    requires { ((senses : List Sense) × Explained cells.now bodies.now senses) × (first < length cells.now)
-        × (length bodies.now ≤ 64) }
-    ensures { (senses : List Sense) → Explained cells.now bodies.now senses
-        → written_by result sheet.new ≡ found_into (next_places senses) (ready_sets senses) (2 ^ first) 7 sheet.old }
+impl From<Stopped> for Refusal {
+    ghost from_gives = { λ stopped e. e ≡ NoText stopped.at };
+
+    fn from(stopped: Stopped) -> Refusal {
+        Refusal::NoText { at: stopped.at }
+    }
+}
+
+impl From<nodes::Refusal> for Refusal {
+    ghost from_gives = { λ why e. e ≡ NoSheet why };
+
+    fn from(why: nodes::Refusal) -> Refusal {
+        Refusal::NoSheet(why)
+    }
+}
+
+impl From<Refusal> for SheetAnswer {
+    ghost from_gives = { λ e answer. answer ≡ refused_as (refusal_of e) };
+
+    fn from(e: Refusal) -> SheetAnswer {
+        match e {
+            Refusal::TooLong => SheetAnswer {
+                number: 1,
+                sheet: 1,
+                state: 0,
+                length: 0,
+            },
+            Refusal::NoText { .. } => refused(22),
+            Refusal::AtFault { .. } => refused(23),
+            Refusal::NoSheet(why) => why.into(),
+        }
+    }
+}
+
+// ---- reading
+
+// A text that was read, with no variable at fault: the cells of its places, that of the end first, what leads to the bodies of its recs, and
+// its first place.
+#[derive(Clone, Copy)]
+struct Term {
+    cells: [u32; CELLS],
+    bodies: [u16; RECS],
+    places: usize,
+    recs: usize,
+    first: u8,
+}
+
+// A text read, blanks dropped, or refusal 1, 22 or 23.
+fn read_term(text: &[u8]) -> Result<Term, Refusal>
+    ensures { MatchResult result (TermRead text.now) (Refuses text.now) }
 {
+    if LONGEST < text.len() {
+        return Err(Refusal::TooLong);
+    }
+    let mut bytes = [0u8; LONGEST];
+    let count = text_reading::strip(text, &mut bytes);
+    let mut cells = [0; CELLS];
+    let mut bodies = [0; RECS];
+    let read = text_reading::read_text(&bytes[..count], &mut cells, &mut bodies)?;
+    if let Some(at) = read.wrong {
+        return Err(Refusal::AtFault {
+            at: usize::from(at),
+        });
+    }
+    let first = text_places::place_of(&bodies[..read.recs], read.link);
+    Ok(Term {
+        cells,
+        bodies,
+        places: read.places,
+        recs: read.recs,
+        first,
+    })
+}
+
+// ---- converting
+
+// The sheet of the states of a term, over seven names, at the front of the lent output, and how many bytes it has; or refusal 19, 20 or 13.
+fn write_states(term: &Term, sheet: &mut [u8]) -> Result<u16, nodes::Refusal>
+    requires { (text : List ℕ) × TermRead text term.now }
+    ensures { (text : List ℕ) → TermRead text term.now → written_as states_refused result sheet.new ≡ text_into text sheet.old }
+{
+    let cells = &term.cells[..1 + term.places];
+    let bodies = &term.bodies[..term.recs];
+    let first = term.first;
     let mut sizes = [0u8; 256];
     let mut masks = [0u16; 2048];
     let mut prefixes = [0u64; 1024];
     text_places::fill_places(cells, bodies, first, &mut sizes, &mut masks, &mut prefixes);
-    let mut counts = [0u8; 64];
-    let mut ready = [0u16; 512];
-    let mut next = [0u8; 896];
-    let known = text_states::find(
+    let text = Text {
         cells,
         bodies,
         first,
-        &sizes,
-        &masks,
-        &prefixes,
-        &mut counts,
-        &mut ready,
-        &mut next,
-    );
-    nodes::found::write_found(&counts, &ready, &next, known, 7, sheet)
+        sizes: &sizes,
+        masks: &masks,
+        prefixes: &prefixes,
+    };
+    let mut known = Known::starting(text.start());
+    nodes::search::write_reached(&text, &mut known, 7, sheet)
 }
 
-// The refusal of a text that is too long.
-fn too_long() -> SheetAnswer
-    ensures { result ≡ record { number = 1; sheet = 1; state = 0; length = 0 } }
+// The ordinary sheet that means what a text says, at the front of the lent output, and how many bytes it has; or why there is none.
+fn convert(text: &[u8], sheet: &mut [u8]) -> Result<u16, Refusal>
+    ensures { written_as refusal_of result sheet.new ≡ text_into text.now sheet.old }
 {
-    SheetAnswer {
-        number: 1,
-        sheet: 1,
-        state: 0,
-        length: 0,
-    }
+    let term = read_term(text)?;
+    Ok(write_states(&term, sheet)?)
 }
 
 // The ordinary sheet that means what a text says, at the front of the lent output: its length, or refusal 1, 22, 23, 19, 20 or 13, which
@@ -80,42 +151,20 @@ fn too_long() -> SheetAnswer
 pub fn from_text(text: &[u8], sheet: &mut [u8]) -> SheetAnswer
     ensures outcome { written_by result sheet.new ≡ text_into text.now sheet.old }
 {
-    if LONGEST < text.len() {
-        return too_long();
-    }
-    let mut cells = [0u32; CELLS];
-    let mut bodies = [0u16; RECS];
-    let read = read_cells(text, &mut cells, &mut bodies);
-    if !read.ok {
-        return refused(22);
-    }
-    if read.wrong != NONE {
-        return refused(23);
-    }
-    let first = text_places::place_of(&bodies[..read.recs], read.link);
-    convert_cells(
-        &cells[..1 + read.places],
-        &bodies[..read.recs],
-        first,
-        sheet,
-    )
+    SheetAnswer::from(convert(text, sheet))
 }
 
 // For a text that is refused as 22 the byte, blanks counted, at which no derivation can go on; for 23 the first variable at fault; else 0.
 pub fn text_fault(text: &[u8]) -> u16
     ensures { result ≡ text_fault_of text.now }
 {
-    if LONGEST < text.len() {
+    let Err(refusal) = read_term(text) else {
         return 0;
+    };
+    match refusal {
+        Refusal::NoText { at } | Refusal::AtFault { at } => {
+            text_reading::place_of_byte(text, at) as u16
+        }
+        Refusal::TooLong | Refusal::NoSheet(_) => 0,
     }
-    let mut cells = [0u32; CELLS];
-    let mut bodies = [0u16; RECS];
-    let read = read_cells(text, &mut cells, &mut bodies);
-    if !read.ok {
-        return text_reading::place_of_byte(text, read.at) as u16;
-    }
-    if read.wrong != NONE {
-        return text_reading::place_of_byte(text, read.wrong as usize) as u16;
-    }
-    0
 }

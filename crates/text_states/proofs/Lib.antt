@@ -1,6 +1,4 @@
 pub mod Ready
 pub mod Steps
 pub mod Wanted
-pub mod Following
-pub mod Visiting
-pub mod Searching
+pub mod Looking
