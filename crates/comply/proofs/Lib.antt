@@ -1,5 +1,5 @@
+pub mod Answer
 pub mod Masks
 pub mod Pairs
 pub mod PairsKnown
 pub mod Search
-pub mod Answer

@@ -1,3 +1,4 @@
 pub mod Answer
 pub mod Masks
+pub mod Met
 pub mod Pairs

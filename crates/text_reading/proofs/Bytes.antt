@@ -1,74 +1,103 @@
 -- The bytes at a place of a text, as the definitions ask for them.
 -- Assumes nothing.
 use mathlib.Core.Path.{◌≡◌, refl, sym, ap, ◌∙◌}
-use mathlib.Core.Bool.{true, false, ◌&&◌}
+use mathlib.Core.Bool.{Bool, true, false, ◌&&◌}
 use mathlib.Core.Option.{none, some}
 use mathlib.Core.List.{List, ◌∷◌}
 use Prim.Native.Nat.{ℕ, ◌+◌, ◌-◌, ◌≤◌, ◌<◌}
-use native.Mathlib.Nat.{lt_of_not-le}
+use native.Mathlib.Nat.{lt_of_not-le, add-zero}
 use native.Mathlib.Omega.{arith}
 use native.Mathlib.Decide.{dec_le}
 use native.Mathlib.Numerals.{add-one}
-use lib.ListN.{length, get_or, drop, get_or-eq_default, drop_of_length-le}
+use lib.ListN.{length, get_or, drop, drop_of_length-le}
 use lib.Seq.{drop-cons}
-use lib.Dec.{leb}
-use borrow.Author.Tests.{eq-eqb, ne_eqb, leb-true}
+use lib.Dec.{eqb, leb}
+use borrow.Author.Tests.{eq-eqb, ne_eqb, le-leb, leb-true, eqb-true}
+use Rattle.std.specs.Prelude.{Option, slice_get, Some, None}
+use Rattle.std.specs.Option.{option_eq}
+use Rattle.std.proofs.lemmas.Bool.{false_from_ne_true, true≢false, false≢true}
+use Rattle.std.proofs.lemmas.Option.{none-some, slice_get_within, slice_get-get_or, get_or_from_slice_get}
 use Rattle.model.proofs.Lists.{both_true}
 use Rattle.text.specs.Parser.{after, one_of}
+use Rattle.text_reading.specs.Reader.{ByteIn, NoneIn}
 
--- behind the last byte there is none
-pub no_byte : (text : List ℕ) {at : ℕ} → length text ≤ at → 0 ≡ get_or text at 0
-no_byte text h = sym (get_or-eq_default text 0 h)
+-- a number that is not in a range
+out_of : {low high : ℕ} (b : ℕ) → (low ≤ b → b ≤ high → ⊥) → (leb low b && leb b high) ≡ false
+out_of {low} {high} b m =
+    false_from_ne_true (leb low b && leb b high) (λ q.
+    let w = both_true (leb low b) (leb b high) q in
+    m (leb-true low b w.0) (leb-true b high w.1))
 
--- a byte that is there is not behind the last
-pub here : (text : List ℕ) (at : ℕ) {b : ℕ} → b ≡ get_or text at 0 → 0 < b → at < length text
-here text at {b} e h = go (dec_le (length text) at)
-  where
-    go : Dec (length text ≤ at) → at < length text
-    go (yes k) = absurd (omega (arith, no_byte text k, e))
-    go (no k) = omega (arith, lt_of_not-le k)
+same_byte : (o : Option ℕ) {b : ℕ} → option_eq eqb o (Some b) ≡ true → o ≡ Some b
+same_byte None q = absurd (false≢true q)
+same_byte (Some a) {b} q = ap Some (eqb-true a b q)
 
--- what is left from a byte on
-from-here : (text : List ℕ) (at : ℕ) {b : ℕ} → b ≡ get_or text at 0 → at < length text → drop at text ≡ b ∷ drop (at + 1) text
-from-here text at e h = rw (e, add-one, drop-cons text at 0) refl
+other_byte : (o : Option ℕ) {b : ℕ} → option_eq eqb o (Some b) ≡ false → o ≡ Some b → ⊥
+other_byte None q e = none-some _ e
+other_byte (Some a) {b} q e = let same : a ≡ b = cc in true≢false (sym (eq-eqb a b same) ∙ q)
 
--- ---- one byte
+-- what the code's test of the next byte tells
+module _ (text : List ℕ) (at : ℕ) {b : ℕ} {o : Option ℕ} (byte : o ≡ slice_get text (at + 0)) {r : Bool} (test : r ≡ option_eq eqb o (Some b)) where
+  pub next_is : r ≡ true → slice_get text at ≡ Some b
+  next_is q = rw add-zero at (sym byte ∙ same_byte o (sym test ∙ q))
 
-pub after_is : {c : ℕ} (text : List ℕ) (at : ℕ) {b : ℕ} → b ≡ get_or text at 0 → b ≡ c → 0 < c
-    → after c (drop at text) ≡ some (drop (at + 1) text)
-unfolding after
-after_is {c} text at {b} e q h =
-    ap (after c) (from-here text at e (here text at e (omega (arith, q)))) ∙ rw (eq-eqb c b (sym q)) refl
+  pub next-not : r ≡ false → slice_get text at ≡ Some b → ⊥
+  next-not q e = other_byte o (sym test ∙ q) (byte ∙ rw add-zero e)
 
-pub after-not : {c : ℕ} (text : List ℕ) (at : ℕ) {b : ℕ} → b ≡ get_or text at 0 → (b ≡ c → ⊥) → after c (drop at text) ≡ none
-unfolding after
-after-not {c} text at {b} e q = go (dec_le (length text) at)
-  where
-    go : Dec (length text ≤ at) → after c (drop at text) ≡ none
-    go (yes k) = ap (after c) (drop_of_length-le text k)
-    go (no k) = ap (after c) (from-here text at e (lt_of_not-le k)) ∙ rw (ne_eqb c b (λ z. q (sym z))) refl
+module _ (text : List ℕ) (at : ℕ) where
+  -- a byte that is there is not behind the last
+  pub here : {b : ℕ} → slice_get text at ≡ Some b → at < length text
+  here {b} e = slice_get_within text at b e
 
--- ---- one of several
+  -- what is left from a byte on
+  from-here : {b : ℕ} → slice_get text at ≡ Some b → drop at text ≡ b ∷ drop (at + 1) text
+  from-here {b} e =
+      let h : at < length text = here e in
+      rw (add-one, drop-cons text at 0, get_or_from_slice_get text at b 0 e) refl
 
-pub one-is : (low span : ℕ) (text : List ℕ) (at : ℕ) {b : ℕ} → b ≡ get_or text at 0 → (leb low b && leb b (low + span)) ≡ true → 0 < low
-    → one_of low span (drop at text) ≡ some (b - low, drop (at + 1) text)
-unfolding one_of
-one-is low span text at {b} e q h =
-    let l : low ≤ b = leb-true low b (both_true (leb low b) (leb b (low + span)) q).0 in
-    ap (one_of low span) (from-here text at e (here text at e (omega arith))) ∙ rw q refl
+  -- one that is not behind the last is there
+  there : at < length text → slice_get text at ≡ Some (get_or text at 0)
+  there h = slice_get-get_or text at 0 h
 
-pub one-not : (low span : ℕ) (text : List ℕ) (at : ℕ) {b : ℕ} → b ≡ get_or text at 0 → (leb low b && leb b (low + span)) ≡ false
-    → one_of low span (drop at text) ≡ none
-unfolding one_of
-one-not low span text at {b} e q = go (dec_le (length text) at)
-  where
-    go : Dec (length text ≤ at) → one_of low span (drop at text) ≡ none
-    go (yes k) = ap (one_of low span) (drop_of_length-le text k)
-    go (no k) = ap (one_of low span) (from-here text at e (lt_of_not-le k)) ∙ rw q refl
+  -- another byte is not, nor one of others
+  pub not-at : {c d : ℕ} → slice_get text at ≡ Some c → (c ≡ d → ⊥) → slice_get text at ≡ Some d → ⊥
+  not-at {c} {d} e n f = n cc
 
--- what the test on a range tells
-pub not-below : (low b high : ℕ) → (leb low b && leb b high) ≡ true → low ≤ b
-not-below low b high q = leb-true low b (both_true (leb low b) (leb b high) q).0
+  pub not-in : {c low high : ℕ} → slice_get text at ≡ Some c → (low ≤ c → c ≤ high → ⊥) → NoneIn text at low high
+  not-in {c} e n b f l h = let same : c ≡ b = cc in n (omega arith) (omega arith)
 
-pub not-above : (low b high : ℕ) → (leb low b && leb b high) ≡ true → b ≤ high
-not-above low b high q = leb-true b high (both_true (leb low b) (leb b high) q).1
+  -- ---- one byte
+
+  pub after_is : {c : ℕ} → slice_get text at ≡ Some c → after c (drop at text) ≡ some (drop (at + 1) text)
+  unfolding after
+  after_is {c} e = ap (after c) (from-here e) ∙ rw (eq-eqb c c refl) refl
+
+  pub after-not : {c : ℕ} → (slice_get text at ≡ Some c → ⊥) → after c (drop at text) ≡ none
+  unfolding after
+  after-not {c} n = go (dec_le (length text) at)
+    where
+      go : Dec (length text ≤ at) → after c (drop at text) ≡ none
+      go (yes k) = ap (after c) (drop_of_length-le text k)
+      go (no k) =
+          let e = there (lt_of_not-le k) in
+          ap (after c) (from-here e) ∙ rw (ne_eqb c (get_or text at 0) (λ z. n (e ∙ ap Some (sym z)))) refl
+
+  -- ---- one of several
+
+  pub one-is : (low span : ℕ) {n : ℕ} → ByteIn text at low (low + span) n → one_of low span (drop at text) ≡ some (n, drop (at + 1) text)
+  unfolding one_of
+  one-is low span {n} h =
+      let i = h.within in
+      let same : low + n - low ≡ n = omega arith in
+      ap (one_of low span) (from-here h.is)
+      ∙ rw (le-leb low (low + n) (omega arith), le-leb (low + n) (low + span) i, same) refl
+
+  pub one-not : (low span : ℕ) → NoneIn text at low (low + span) → one_of low span (drop at text) ≡ none
+  unfolding one_of
+  one-not low span n = go (dec_le (length text) at)
+    where
+      go : Dec (length text ≤ at) → one_of low span (drop at text) ≡ none
+      go (yes k) = ap (one_of low span) (drop_of_length-le text k)
+      go (no k) =
+          let e = there (lt_of_not-le k) in
+          ap (one_of low span) (from-here e) ∙ rw (out_of (get_or text at 0) (n (get_or text at 0) e)) refl

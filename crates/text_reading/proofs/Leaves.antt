@@ -1,57 +1,55 @@
 -- What is left where nothing but 0 or a variable can come.
 -- Assumes nothing.
-use mathlib.Core.Path.{◌≡◌, subst⁻¹}
-use mathlib.Core.Bool.{true, false, ◌&&◌}
+use mathlib.Core.Path.{◌≡◌, refl}
+use mathlib.Core.Bool.{true, false}
+use mathlib.Core.Option.{Option}
 use mathlib.Core.List.{List}
-use Prim.Native.Nat.{ℕ, ◌+◌, ◌-◌, ◌≤◌}
-use native.Mathlib.Omega.{arith}
+use Prim.Native.Nat.{ℕ, ◌+◌}
 use lib.ListN.{get_or, drop}
-use lib.Dec.{leb}
+use Rattle.std.specs.Prelude as O
+use Rattle.std.specs.Prelude.{slice_get, Some}
+use Rattle.std.specs.Option.{option_or}
 use Rattle.text.specs.Grammar.{nought, variable}
-use Rattle.text.specs.Convert.{wrong_at}
-use Rattle.text_reading.specs.declared.Read.{Read}
+use Rattle.text.specs.Parser.{leaf}
+use Rattle.text.specs.Convert.{wrong_at, or_else}
 use Rattle.text_reading.specs.declared.Scope.{Scope}
-use Rattle.text_reading.specs.Reading.{listed, or_none, first_of, onward, PartRead, fails, reads, LeafRead}
-use Rattle.text_reading.proofs.Bytes.{here, not-below}
+use Rattle.text_reading.specs.Reading.{Standing, fault_in, listed, onward, Ready, ReadAs, fails, reads}
+use Rattle.text_reading.specs.Reader.{ByteIn, NoneIn}
+use Rattle.text_reading.proofs.Bytes.{here}
 use Rattle.text_reading.proofs.Steps.{leaf-nought, leaf-variable, leaf-stops}
 use Rattle.text_reading.proofs.Parts.{part-nought, part-variable}
 use Rattle.text_reading.proofs.Outcome.{stopped-at}
 
-module _ (text : List ℕ) (from : Read) (scope : Scope) {b : ℕ} (byte : b ≡ get_or text from.at 0) where
-  pub nought-read : b ≡ 48 → {to : Read} → to ≡ onward from (from.at + 1) 0 → LeafRead text from scope to
-  nought-read h e =
-      record {
-        leaves = λ cells bodies ready.
-            reads nought (drop (from.at + 1) text) (leaf-nought text from.at byte h)
-            (subst⁻¹ (λ (to : Read). PartRead text from scope cells bodies nought (drop (from.at + 1) text) to cells bodies) e
-            (part-nought ready (here text from.at byte (omega arith))));
-      }
+-- the first of two, in the code and in the definitions
+pub fault-or : (a b : O.Option ℕ) → fault_in (option_or a b) ≡ or_else (fault_in a) (fault_in b)
+unfolding or_else
+fault-or O.None b = refl
+fault-or (O.Some i) b = refl
 
-  pub nothing_read : (b ≡ 48 → ⊥) → (leb 88 b && leb b 90) ≡ false → {to : Read} → (to.ok ≡ false) × (to.at ≡ from.at)
-      → LeafRead text from scope to
-  nothing_read n q h =
-      record {
-        leaves = λ cells bodies ready.
-            fails (drop from.at text) (leaf-stops text from.at byte n q) (stopped-at from.at h ready.inside) ready.cells_room
-            ready.bodies_room;
-      }
+module _ {text : List ℕ} {from : Standing} {scope : Scope} {cells bodies : List ℕ} (ready : Ready text from scope cells bodies) where
+  pub nought-read : slice_get text from.at ≡ Some 48
+      → ReadAs text from scope cells bodies (leaf (drop from.at text)) (onward from (from.at + 1) 0) cells bodies
+  nought-read e =
+      reads nought (drop (from.at + 1) text) (leaf-nought text from.at e) (part-nought ready (here text from.at e))
 
-  pub variable-read : (b ≡ 48 → ⊥) → (leb 88 b && leb b 90) ≡ true → (l w : ℕ) → l ≡ 256 + get_or scope.owners (b - 88) 0
-      → w ≡ first_of from.wrong (or_none (wrong_at (listed scope.recs) (listed scope.prefixed) from.at (variable (b - 88))))
-      → LeafRead text from scope (
-      record {
-        ok = true;
-        at = from.at + 1;
-        link = l;
-        places = from.places;
-        recs = from.recs;
-        wrong = w;
-      }
-      )
-  variable-read n q l w known e =
-      let low : 88 ≤ b = not-below 88 b 90 q in
-      record {
-        leaves = λ cells bodies ready.
-            reads (variable (b - 88)) (drop (from.at + 1) text) (leaf-variable text from.at byte n q)
-            (part-variable ready (b - 88) l w (here text from.at byte (omega arith)) known e);
-      }
+  module _ (n : slice_get text from.at ≡ Some 48 → ⊥) where
+    pub nothing_read : NoneIn text from.at 88 90 → {to : Standing} → (to.ok ≡ false) × (to.at ≡ from.at)
+        → ReadAs text from scope cells bodies (leaf (drop from.at text)) to cells bodies
+    nothing_read m h =
+        fails (drop from.at text) (leaf-stops text from.at n m) (stopped-at from.at h ready.inside) ready.cells_room ready.bodies_room
+
+    pub variable-read : {v : ℕ} → ByteIn text from.at 88 90 v → (l : ℕ) (w : Option ℕ) → l ≡ 256 + get_or scope.owners v 0
+        → w ≡ or_else from.wrong (wrong_at (listed scope.recs) (listed scope.prefixed) from.at (variable v))
+        → ReadAs text from scope cells bodies (leaf (drop from.at text)) (
+        record {
+          ok = true;
+          at = from.at + 1;
+          link = l;
+          places = from.places;
+          recs = from.recs;
+          wrong = w;
+        }
+        ) cells bodies
+    variable-read {v} h l w known e =
+        reads (variable v) (drop (from.at + 1) text) (leaf-variable text from.at n h)
+        (part-variable ready v l w (here text from.at h.is) known e)

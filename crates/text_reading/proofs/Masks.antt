@@ -2,6 +2,7 @@
 -- Assumes nothing.
 use mathlib.Core.Path.{◌≡◌, refl, sym, ap, ◌∙◌}
 use mathlib.Core.Bool.{Bool, true, false, not, cond, ◌&&◌, ◌||◌}
+use mathlib.Core.Option.{none, some}
 use mathlib.Core.List.{List, [], ◌∷◌}
 use Prim.Native.Nat.{ℕ, zero, suc, ◌+◌, ◌-◌, ◌*◌, ◌^◌, ◌/◌, ◌%◌, ◌≤◌, ◌<◌}
 use native.Mathlib.Nat.{lt_of_not-le}
@@ -16,7 +17,7 @@ use Rattle.model.proofs.Bits.{has-and}
 use Rattle.model.proofs.Masks.{has_more}
 use Rattle.text.specs.Grammar.{Tree, nought, bare, dotted, summed, chosen, bound, variable, bracket}
 use Rattle.text.specs.Convert.{wrong_at, width_of, action_width}
-use Rattle.text_reading.specs.Reading.{listed, or_none, first_of}
+use Rattle.text_reading.specs.Reading.{listed}
 
 -- ---- members of a part of a list
 
@@ -171,17 +172,11 @@ wrong-agree (bracket t) r1 r2 p1 p2 i r p = wrong-agree t r1 r2 p1 p2 (suc i) r 
 
 -- ---- one variable
 
-module _ (recs prefixed i v w : ℕ) where
-  -- one was found before
-  pub judged-before : (w ≡ 256 → ⊥) → (x : ℕ) → w ≡ first_of w x
-  unfolding first_of
-  judged-before n x = rw (ne_eqb w 256 n) refl
+module _ (recs prefixed i v : ℕ) (small-v : v < 3) where
+  pub judged-fine : prefixed / 2 ^ v % 2 ≡ 1 → none ≡ wrong_at (listed recs) (listed prefixed) i (variable v)
+  unfolding wrong_at has
+  judged-fine e = rw (any-listed prefixed v, eq-eqb (prefixed / 2 ^ v % 2) 1 e, small_is v small-v) refl
 
-  module _ (small-v : v < 3) (none_yet : w ≡ 256) where
-    pub judged-fine : prefixed / 2 ^ v % 2 ≡ 1 → 256 ≡ first_of w (or_none (wrong_at (listed recs) (listed prefixed) i (variable v)))
-    unfolding first_of wrong_at or_none has
-    judged-fine e = rw (eq-eqb w 256 none_yet, any-listed prefixed v, eq-eqb (prefixed / 2 ^ v % 2) 1 e, small_is v small-v) refl
-
-    pub judged-wrong : (prefixed / 2 ^ v % 2 ≡ 1 → ⊥) → i ≡ first_of w (or_none (wrong_at (listed recs) (listed prefixed) i (variable v)))
-    unfolding first_of wrong_at or_none has
-    judged-wrong n = rw (eq-eqb w 256 none_yet, any-listed prefixed v, ne_eqb (prefixed / 2 ^ v % 2) 1 n) refl
+  pub judged-wrong : (prefixed / 2 ^ v % 2 ≡ 1 → ⊥) → some i ≡ wrong_at (listed recs) (listed prefixed) i (variable v)
+  unfolding wrong_at has
+  judged-wrong n = rw (any-listed prefixed v, ne_eqb (prefixed / 2 ^ v % 2) 1 n) refl

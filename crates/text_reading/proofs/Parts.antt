@@ -1,51 +1,36 @@
 -- What was read, for each kind of tree, from what was read for its parts.
 -- Assumes nothing.
 use mathlib.Core.Path.{◌≡◌, refl, sym, ap, subst⁻¹, ◌∙◌}
-use mathlib.Core.Bool.{Bool, true, false, cond}
+use mathlib.Core.Bool.{true}
 use mathlib.Core.Option.{Option, none, some}
 use mathlib.Core.List.{List, [], ◌∷◌, ◌++◌, map, append_assoc, append-nil, map-append}
 use Prim.Native.Nat.{ℕ, suc, ◌+◌, ◌≤◌, ◌<◌}
 use native.Mathlib.Omega.{arith}
 use lib.ListN.{length, get_or, set, take, drop, length-set}
 use lib.Seq.{take-suc-set, take-set-lt, length-take-le, set-append_left}
-use lib.Dec.{eqb}
-use borrow.Author.Tests.{ne_eqb, eqb-true}
 use Rattle.text.specs.Grammar.{Tree, nought, bare, dotted, summed, chosen, bound, variable, bracket}
 use Rattle.text.specs.Terms.{term_of}
 use Rattle.text.specs.Places.{size_of}
 use Rattle.text.specs.Cells.{Cell, packed, recs_of, link_to, choice_cell, cells_in, bodies_in}
 use Rattle.text.specs.Convert.{action_width, width_of, wrong_at, or_else}
-use Rattle.text_reading.specs.declared.Read.{Read}
 use Rattle.text_reading.specs.declared.Scope.{Scope}
-use Rattle.text_reading.specs.Reading.{listed, or_none, first_of, onward, celled, with_rec, prefixed_scope, InRec, CellPut, Ready, PartRead}
-use Rattle.text_reading.proofs.Bounds.{action-width, few-in, wrong-inside}
+use Rattle.text_reading.specs.Reading.{Standing, listed, onward, celled, with_rec, prefixed_scope, InRec, CellPut, Ready, PartRead}
+use Rattle.text_reading.proofs.Bounds.{action-width, few-in}
 use Rattle.text_reading.proofs.Masks.{wrong-agree}
 
 -- ---- the first variable at fault
 
 -- nothing is at fault here
-first-none : (w : ℕ) → w ≡ first_of w 256
-unfolding first_of
-first-none w = go (eqb w 256) refl
-  where
-    go : (b : Bool) → eqb w 256 ≡ b → w ≡ cond b 256 w
-    go true e = eqb-true w 256 e
-    go false e = refl
+first-none : (w : Option ℕ) → w ≡ or_else w none
+unfolding or_else
+first-none none = refl
+first-none (some k) = refl
 
 -- one part after the other
-first_found : (a b : Option ℕ) → ((k : ℕ) → a ≡ some k → k < 256) → first_of (or_none a) (or_none b) ≡ or_none (or_else a b)
-unfolding first_of or_none or_else
-first_found none b h = refl
-first_found (some k) b h = let l = h k refl in rw (ne_eqb k 256 (λ q. omega arith)) refl
-
-first_then : (w : ℕ) (a b : Option ℕ) → ((k : ℕ) → a ≡ some k → k < 256)
-    → first_of (first_of w (or_none a)) (or_none b) ≡ first_of w (or_none (or_else a b))
-unfolding first_of
-first_then w a b h = go (eqb w 256) refl
-  where
-    go : (c : Bool) → eqb w 256 ≡ c → first_of (first_of w (or_none a)) (or_none b) ≡ first_of w (or_none (or_else a b))
-    go true e = rw e (first_found a b h)
-    go false e = rw (e, e) refl
+first_then : (w a b : Option ℕ) → or_else (or_else w a) b ≡ or_else w (or_else a b)
+unfolding or_else
+first_then none a b = refl
+first_then (some k) a b = refl
 
 -- ---- tables
 
@@ -79,22 +64,22 @@ body-put bodies bodies' rest n m x room less e =
     ∙ append_assoc (take n bodies) (x ∷ []) rest
 
 -- what holds with a cell of one's own holds with the one that was put
-put-part : {text : List ℕ} {from : Read} {scope : Scope} {cells bodies : List ℕ} {t : Tree} {r : List ℕ} {mid to : Read}
+put-part : {text : List ℕ} {from : Standing} {scope : Scope} {cells bodies : List ℕ} {t : Tree} {r : List ℕ} {mid to : Standing}
     {old cells' bodies' : List ℕ}
     {kind left right : ℕ} → CellPut old mid kind left right to cells'
     → PartRead text from scope cells bodies t r (celled mid)
     (set old (mid.places + 1) (packed (record { kind = kind; left = left; right = right }))) bodies'
     → PartRead text from scope cells bodies t r to cells' bodies'
 put-part {text} {from} {scope} {cells} {bodies} {t} {r} {mid} {to} {old} {cells'} {bodies'} put part =
-    subst⁻¹ (λ (to : Read). PartRead text from scope cells bodies t r to cells' bodies') put.to_is
+    subst⁻¹ (λ (to : Standing). PartRead text from scope cells bodies t r to cells' bodies') put.to_is
     (subst⁻¹ (λ cells'. PartRead text from scope cells bodies t r (celled mid) cells' bodies') put.cells_are part)
 
 -- ---- leaves
 
-module _ {text : List ℕ} {from : Read} {scope : Scope} {cells bodies : List ℕ} (ready : Ready text from scope cells bodies) where
+module _ {text : List ℕ} {from : Standing} {scope : Scope} {cells bodies : List ℕ} (ready : Ready text from scope cells bodies) where
   pub part-nought : from.at < length text
       → PartRead text from scope cells bodies nought (drop (from.at + 1) text) (onward from (from.at + 1) 0) cells bodies
-  unfolding onward width_of term_of link_to size_of recs_of cells_in bodies_in wrong_at or_none
+  unfolding width_of term_of link_to size_of recs_of cells_in bodies_in wrong_at
   part-nought h =
       record {
         is_ok = refl;
@@ -111,8 +96,8 @@ module _ {text : List ℕ} {from : Read} {scope : Scope} {cells bodies : List �
         bodies_room = ready.bodies_room;
       }
 
-  pub part-variable : (v l w : ℕ) → from.at < length text → l ≡ 256 + get_or scope.owners v 0
-      → w ≡ first_of from.wrong (or_none (wrong_at (listed scope.recs) (listed scope.prefixed) from.at (variable v)))
+  pub part-variable : (v l : ℕ) (w : Option ℕ) → from.at < length text → l ≡ 256 + get_or scope.owners v 0
+      → w ≡ or_else from.wrong (wrong_at (listed scope.recs) (listed scope.prefixed) from.at (variable v))
       → PartRead text from scope cells bodies (variable v) (drop (from.at + 1) text) (
       record {
         ok = true;
@@ -146,9 +131,9 @@ module _ {text : List ℕ} {from : Read} {scope : Scope} {cells bodies : List �
     pub bare-room : from.places < 256
     bare-room = omega (arith, action-width j, ready.few_places, ready.short)
 
-    pub part-bare : {to : Read} {cells' : List ℕ} → CellPut cells (onward from at 0) j 0 0 to cells'
+    pub part-bare : {to : Standing} {cells' : List ℕ} → CellPut cells (onward from at 0) j 0 0 to cells'
         → PartRead text from scope cells bodies (bare j) (drop at text) to cells' bodies
-    unfolding onward celled width_of term_of link_to size_of recs_of cells_in bodies_in wrong_at or_none
+    unfolding width_of term_of link_to size_of recs_of cells_in bodies_in wrong_at
     part-bare put =
         put-part put (
         record {
@@ -167,17 +152,16 @@ module _ {text : List ℕ} {from : Read} {scope : Scope} {cells bodies : List �
         }
         )
 
-    module _ {t : Tree} {r : List ℕ} {mid : Read} {cells' bodies' : List ℕ}
+    module _ {t : Tree} {r : List ℕ} {mid : Standing} {cells' bodies' : List ℕ}
         (part : PartRead text (onward from (at + 1) 0) (prefixed_scope scope) cells bodies t r mid cells' bodies') where
       pub dotted-room : mid.places < 256
-      unfolding onward
       dotted-room =
           let few = few-in t in
           omega (arith, few.1, part.places_are, part.at_is, part.inside, ready.few_places, ready.short)
 
-      pub part-dotted : {to : Read} {cells'' : List ℕ} → CellPut cells' mid j mid.link 0 to cells''
+      pub part-dotted : {to : Standing} {cells'' : List ℕ} → CellPut cells' mid j mid.link 0 to cells''
           → PartRead text from scope cells bodies (dotted j t) r to cells'' bodies'
-      unfolding width_of term_of link_to size_of recs_of cells_in bodies_in wrong_at onward prefixed_scope celled
+      unfolding width_of term_of link_to size_of recs_of cells_in bodies_in wrong_at
       part-dotted put =
           let same : at + 1 ≡ from.at + suc (action_width j) = omega arith in
           put-part put (
@@ -196,7 +180,7 @@ module _ {text : List ℕ} {from : Read} {scope : Scope} {cells bodies : List �
             bodies_are = part.bodies_are;
             wrong_is =
                 part.wrong_is
-                ∙ ap (λ (i : ℕ). first_of from.wrong (or_none (wrong_at (listed scope.recs) (listed scope.recs) i t))) same;
+                ∙ ap (λ (i : ℕ). or_else from.wrong (wrong_at (listed scope.recs) (listed scope.recs) i t)) same;
             cells_room = length-set cells' _ _ ∙ part.cells_room;
             bodies_room = part.bodies_room;
           }
@@ -204,10 +188,10 @@ module _ {text : List ℕ} {from : Read} {scope : Scope} {cells bodies : List �
 
   -- ---- brackets
 
-  pub part-bracket : {t : Tree} {r : List ℕ} {mid : Read} {cells' bodies' : List ℕ}
+  pub part-bracket : {t : Tree} {r : List ℕ} {mid : Standing} {cells' bodies' : List ℕ}
       → PartRead text (onward from (from.at + 1) 0) scope cells bodies t r mid cells' bodies' → mid.at < length text
       → PartRead text from scope cells bodies (bracket t) (drop (mid.at + 1) text) (onward mid (mid.at + 1) mid.link) cells' bodies'
-  unfolding width_of term_of wrong_at onward
+  unfolding width_of term_of wrong_at
   part-bracket {t} {r} {mid} part h =
       let same : from.at + 1 ≡ suc from.at = omega arith in
       record {
@@ -222,7 +206,7 @@ module _ {text : List ℕ} {from : Read} {scope : Scope} {cells bodies : List �
         bodies_are = part.bodies_are;
         wrong_is =
             part.wrong_is
-            ∙ ap (λ (i : ℕ). first_of from.wrong (or_none (wrong_at (listed scope.recs) (listed scope.prefixed) i t))) same;
+            ∙ ap (λ (i : ℕ). or_else from.wrong (wrong_at (listed scope.recs) (listed scope.prefixed) i t)) same;
         cells_room = part.cells_room;
         bodies_room = part.bodies_room;
       }
@@ -230,10 +214,10 @@ module _ {text : List ℕ} {from : Read} {scope : Scope} {cells bodies : List �
   -- ---- recs
 
   pub part-bound : (v : ℕ) {inside : Scope} → InRec scope v from.recs inside
-      → {t : Tree} {r : List ℕ} {mid : Read} {cells' bodies' : List ℕ}
+      → {t : Tree} {r : List ℕ} {mid : Standing} {cells' bodies' : List ℕ}
       → PartRead text (with_rec from (from.at + 5)) inside cells bodies t r mid cells' bodies'
       → PartRead text from scope cells bodies (bound v t) r mid cells' (set bodies' from.recs mid.link)
-  unfolding width_of term_of link_to size_of recs_of cells_in bodies_in wrong_at with_rec
+  unfolding width_of term_of link_to size_of recs_of cells_in bodies_in wrong_at
   part-bound v {inside} known {t} {r} {mid} {cells'} {bodies'} part =
       let next : from.recs + 1 ≡ suc from.recs = omega arith in
       let more : mid.recs ≡ from.recs + 1 + recs_of (term_of t) = part.recs_are in
@@ -266,7 +250,7 @@ module _ {text : List ℕ} {from : Read} {scope : Scope} {cells bodies : List �
             ∙ ap (λ (k : ℕ). bodies_in (set scope.owners v from.recs) from.places k (term_of t)) next);
         wrong_is =
             part.wrong_is
-            ∙ ap (λ o. first_of from.wrong (or_none o))
+            ∙ ap (λ o. or_else from.wrong o)
             (wrong-agree t _ _ _ _ (from.at + 5) known.recs_are known.prefixed_are);
         cells_room = part.cells_room;
         bodies_room = length-set bodies' _ _ ∙ part.bodies_room;
@@ -317,13 +301,12 @@ choosing =
       wrong_is = λ t u recs prefixed i. refl;
     }
 
-module _ {join : Tree → Tree → Tree} {kind gap : ℕ} (choice : Choice join kind gap) {text : List ℕ} {from : Read} {scope : Scope}
+module _ {join : Tree → Tree → Tree} {kind gap : ℕ} (choice : Choice join kind gap) {text : List ℕ} {from : Standing} {scope : Scope}
     {cells bodies : List ℕ}
-    (ready : Ready text from scope cells bodies) {t : Tree} {r : List ℕ} {mid : Read} {cells' bodies' : List ℕ}
-    (one : PartRead text from scope cells bodies t r mid cells' bodies') {u : Tree} {s : List ℕ} {next : Read} {cells'' bodies'' : List ℕ}
+    (ready : Ready text from scope cells bodies) {t : Tree} {r : List ℕ} {mid : Standing} {cells' bodies' : List ℕ}
+    (one : PartRead text from scope cells bodies t r mid cells' bodies') {u : Tree} {s : List ℕ} {next : Standing} {cells'' bodies'' : List ℕ}
     (two : PartRead text (onward mid (mid.at + gap) 0) scope cells' bodies' u s next cells'' bodies'') (some-gap : 1 ≤ gap) where
   pub joined-room : next.places < 256
-  unfolding onward
   joined-room =
       let few = few-in t in
       let few' = few-in u in
@@ -342,7 +325,7 @@ module _ {join : Tree → Tree → Tree} {kind gap : ℕ} (choice : Choice join 
 
   joined-cell : record { kind = kind; left = mid.link; right = next.link }
       ≡ choice_cell scope.owners from.places from.recs kind (term_of t) (term_of u)
-  unfolding onward choice_cell
+  unfolding choice_cell
   joined-cell =
       ap (λ (k : ℕ). record { kind = kind; left = k; right = next.link }) one.link_is
       ∙ ap (λ (k : ℕ). record { kind = kind; left = link_to scope.owners from.places from.recs (term_of t); right = k })
@@ -354,7 +337,6 @@ module _ {join : Tree → Tree → Tree} {kind gap : ℕ} (choice : Choice join 
       ≡ take (1 + from.places) cells
       ++ map packed (cells_in scope.owners from.places from.recs (term_of t)
       ++ cells_in scope.owners (from.places + size_of (term_of t)) (from.recs + recs_of (term_of t)) (term_of u))
-  unfolding onward
   joined-cells =
       let first = cells_in scope.owners from.places from.recs (term_of t) in
       let front = take (1 + from.places) cells in
@@ -371,7 +353,6 @@ module _ {join : Tree → Tree → Tree} {kind gap : ℕ} (choice : Choice join 
 
   joined-bodies : take next.recs bodies''
       ≡ take from.recs bodies ++ bodies_in scope.owners from.places from.recs (term_of (join t u))
-  unfolding onward
   joined-bodies =
       let first = bodies_in scope.owners from.places from.recs (term_of t) in
       let front = take from.recs bodies in
@@ -384,22 +365,19 @@ module _ {join : Tree → Tree → Tree} {kind gap : ℕ} (choice : Choice join 
       ∙ ap (λ l. front ++ l) (sym (choice.bodies_are t u scope.owners from.places from.recs))
 
   joined-wrong : next.wrong
-      ≡ first_of from.wrong (or_none (wrong_at (listed scope.recs) (listed scope.prefixed) from.at (join t u)))
-  unfolding onward
+      ≡ or_else from.wrong (wrong_at (listed scope.recs) (listed scope.prefixed) from.at (join t u))
   joined-wrong =
       let R = listed scope.recs in
       let P = listed scope.prefixed in
       let place : mid.at + gap ≡ from.at + (gap + width_of t) = omega (arith, one.at_is) in
       two.wrong_is
-      ∙ ap (λ (w : ℕ). first_of w (or_none (wrong_at R P (mid.at + gap) u))) one.wrong_is
+      ∙ ap (λ (w : Option ℕ). or_else w (wrong_at R P (mid.at + gap) u)) one.wrong_is
       ∙ first_then from.wrong (wrong_at R P from.at t) (wrong_at R P (mid.at + gap) u)
-      (λ k e. omega (arith, wrong-inside t R P from.at k e, one.at_is, one.inside, ready.short))
-      ∙ ap (λ (i : ℕ). first_of from.wrong (or_none (or_else (wrong_at R P from.at t) (wrong_at R P i u)))) place
-      ∙ ap (λ (o : Option ℕ). first_of from.wrong (or_none o)) (sym (choice.wrong_is t u R P from.at))
+      ∙ ap (λ (i : ℕ). or_else from.wrong (or_else (wrong_at R P from.at t) (wrong_at R P i u))) place
+      ∙ ap (λ (o : Option ℕ). or_else from.wrong o) (sym (choice.wrong_is t u R P from.at))
 
-  pub part-joined : {to : Read} {cells''' : List ℕ} → CellPut cells'' next kind mid.link next.link to cells'''
+  pub part-joined : {to : Standing} {cells''' : List ℕ} → CellPut cells'' next kind mid.link next.link to cells'''
       → PartRead text from scope cells bodies (join t u) s to cells''' bodies''
-  unfolding celled onward
   part-joined put =
       let first = cells_in scope.owners from.places from.recs (term_of t) in
       let second = cells_in scope.owners (from.places + size_of (term_of t)) (from.recs + recs_of (term_of t)) (term_of u) in
@@ -427,10 +405,9 @@ module _ {join : Tree → Tree → Tree} {kind gap : ℕ} (choice : Choice join 
 
 -- ---- where the next part begins
 
-module _ {text : List ℕ} {from : Read} {scope : Scope} {cells bodies : List ℕ} (ready : Ready text from scope cells bodies) where
+module _ {text : List ℕ} {from : Standing} {scope : Scope} {cells bodies : List ℕ} (ready : Ready text from scope cells bodies) where
   -- behind some bytes
   pub ready-behind : (at : ℕ) → from.at ≤ at → at ≤ length text → Ready text (onward from at 0) scope cells bodies
-  unfolding onward
   ready-behind at h k =
       record {
         short = ready.short;
@@ -444,7 +421,6 @@ module _ {text : List ℕ} {from : Read} {scope : Scope} {cells bodies : List �
 
   -- behind a prefix
   pub ready-prefixed : (at : ℕ) → from.at ≤ at → at ≤ length text → Ready text (onward from at 0) (prefixed_scope scope) cells bodies
-  unfolding onward prefixed_scope
   ready-prefixed at h k =
       record {
         short = ready.short;
@@ -459,7 +435,6 @@ module _ {text : List ℕ} {from : Read} {scope : Scope} {cells bodies : List �
   -- in a rec
   pub ready-rec : {v : ℕ} {inside : Scope} → InRec scope v from.recs inside → from.at + 5 ≤ length text
       → Ready text (with_rec from (from.at + 5)) inside cells bodies
-  unfolding with_rec
   ready-rec {v} {inside} known k =
       record {
         short = ready.short;
@@ -472,10 +447,9 @@ module _ {text : List ℕ} {from : Read} {scope : Scope} {cells bodies : List �
       }
 
   -- behind a part
-  pub ready_on : {t : Tree} {r : List ℕ} {mid : Read} {cells' bodies' : List ℕ}
+  pub ready_on : {t : Tree} {r : List ℕ} {mid : Standing} {cells' bodies' : List ℕ}
       → PartRead text from scope cells bodies t r mid cells' bodies'
       → (gap : ℕ) → mid.at + gap ≤ length text → Ready text (onward mid (mid.at + gap) 0) scope cells' bodies'
-  unfolding onward
   ready_on {t} part gap k =
       let few = few-in t in
       record {

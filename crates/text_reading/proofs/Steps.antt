@@ -1,87 +1,83 @@
 -- What each definition of the reader gives at a place of a text, for the byte that stands there.
 -- Assumes nothing.
-use mathlib.Core.Path.{◌≡◌, refl, ap}
-use mathlib.Core.Bool.{true, false, ◌&&◌}
+use mathlib.Core.Path.{◌≡◌, refl}
 use mathlib.Core.List.{List, [], ◌∷◌}
-use Prim.Native.Nat.{ℕ, zero, suc, ◌+◌, ◌-◌, ◌≤◌}
+use Prim.Native.Nat.{ℕ, zero, suc, ◌+◌, ◌-◌}
 use native.Mathlib.Omega.{arith}
-use lib.ListN.{get_or, drop}
-use lib.Dec.{leb}
+use lib.ListN.{drop}
+use Rattle.std.specs.Prelude.{slice_get, Some}
 use Rattle.text.specs.Grammar.{Tree, nought, bare, dotted, variable, bracket}
 use Rattle.text.specs.Parser.{Parse, failed, parsed, and_then, choose, expects, whole_of, leaf, acted, sent, bracketed, looped, step, tight_at}
-use Rattle.text_reading.proofs.Bytes.{after_is, after-not, one-is, one-not, not-below}
+use Rattle.text_reading.specs.Reader.{ByteIn, NoneIn}
+use Rattle.text_reading.proofs.Bytes.{not-at, not-in, after_is, after-not, one-is, one-not}
 
 -- ---- 0 and variables
 
-module _ (text : List ℕ) (at : ℕ) {b : ℕ} (byte : b ≡ get_or text at 0) where
-  pub leaf-nought : b ≡ 48 → leaf (drop at text) ≡ parsed nought (drop (at + 1) text)
+module _ (text : List ℕ) (at : ℕ) where
+  pub leaf-nought : slice_get text at ≡ Some 48 → leaf (drop at text) ≡ parsed nought (drop (at + 1) text)
   unfolding leaf choose
-  leaf-nought q = rw (after_is text at byte q (omega arith)) refl
+  leaf-nought e = rw (after_is text at e) refl
 
-  pub leaf-variable : (b ≡ 48 → ⊥) → (leb 88 b && leb b 90) ≡ true → leaf (drop at text) ≡ parsed (variable (b - 88)) (drop (at + 1) text)
-  unfolding leaf choose
-  leaf-variable n q = rw (after-not text at byte n, one-is 88 2 text at byte q (omega arith)) refl
+  module _ (n : slice_get text at ≡ Some 48 → ⊥) where
+    pub leaf-variable : {v : ℕ} → ByteIn text at 88 90 v → leaf (drop at text) ≡ parsed (variable v) (drop (at + 1) text)
+    unfolding leaf choose
+    leaf-variable h = rw (after-not text at n, one-is text at 88 2 h) refl
 
-  pub leaf-stops : (b ≡ 48 → ⊥) → (leb 88 b && leb b 90) ≡ false → leaf (drop at text) ≡ failed (drop at text)
-  unfolding leaf choose
-  leaf-stops n q = rw (after-not text at byte n, one-not 88 2 text at byte q) refl
+    pub leaf-stops : NoneIn text at 88 90 → leaf (drop at text) ≡ failed (drop at text)
+    unfolding leaf choose
+    leaf-stops m = rw (after-not text at n, one-not text at 88 2 m) refl
 
   -- ---- the rest of tight
 
   module _ (p q : List ℕ → Parse) where
-    pub acted-bare : (j : ℕ) → (b ≡ 46 → ⊥) → acted p q j (drop at text) ≡ parsed (bare j) (drop at text)
+    pub acted-bare : (j : ℕ) → (slice_get text at ≡ Some 46 → ⊥) → acted p q j (drop at text) ≡ parsed (bare j) (drop at text)
     unfolding acted choose
-    acted-bare j n = rw (after-not text at byte n) refl
+    acted-bare j n = rw (after-not text at n) refl
 
-    pub acted-dot : (j : ℕ) → b ≡ 46 → acted p q j (drop at text) ≡ and_then (p (drop (at + 1) text)) (λ t r. parsed (dotted j t) r)
+    pub acted-dot : (j : ℕ) → slice_get text at ≡ Some 46
+        → acted p q j (drop at text) ≡ and_then (p (drop (at + 1) text)) (λ t r. parsed (dotted j t) r)
     unfolding acted choose
-    acted-dot j e = rw (after_is text at byte e (omega arith)) refl
+    acted-dot j e = rw (after_is text at e) refl
 
-    pub sent-letter : (leb 97 b && leb b 103) ≡ true → sent p q (drop at text) ≡ acted p q (b - 90) (drop (at + 1) text)
+    pub sent-letter : {j : ℕ} → ByteIn text at 97 103 j → sent p q (drop at text) ≡ acted p q (7 + j) (drop (at + 1) text)
     unfolding sent choose
-    sent-letter e =
-        let low : 97 ≤ b = not-below 97 b 103 e in
-        let same : 7 + (b - 97) ≡ b - 90 = omega arith in
-        rw (one-is 97 6 text at byte e (omega arith)) (ap (λ j. acted p q j (drop (at + 1) text)) same)
+    sent-letter h = rw (one-is text at 97 6 h) refl
 
-    pub sent-stops : (leb 97 b && leb b 103) ≡ false → sent p q (drop at text) ≡ failed (drop at text)
+    pub sent-stops : NoneIn text at 97 103 → sent p q (drop at text) ≡ failed (drop at text)
     unfolding sent choose
-    sent-stops e = rw (one-not 97 6 text at byte e) refl
+    sent-stops n = rw (one-not text at 97 6 n) refl
 
-    pub step-takes : (leb 97 b && leb b 103) ≡ true → step p q (drop at text) ≡ acted p q (b - 97) (drop (at + 1) text)
+    pub step-takes : {j : ℕ} → ByteIn text at 97 103 j → step p q (drop at text) ≡ acted p q j (drop (at + 1) text)
     unfolding step choose
-    step-takes e = rw (one-is 97 6 text at byte e (omega arith)) refl
+    step-takes h = rw (one-is text at 97 6 h) refl
 
-    module _ (no-letter : (leb 97 b && leb b 103) ≡ false) where
-      pub step-sends : b ≡ 33 → step p q (drop at text) ≡ sent p q (drop (at + 1) text)
-      unfolding step choose
-      step-sends e = rw (one-not 97 6 text at byte no-letter, after_is text at byte e (omega arith)) refl
+    pub step-sends : slice_get text at ≡ Some 33 → step p q (drop at text) ≡ sent p q (drop (at + 1) text)
+    unfolding step choose
+    step-sends e = rw (one-not text at 97 6 (not-in text at e (λ l h. omega arith)), after_is text at e) refl
 
-      pub step-bracket : (b ≡ 33 → ⊥) → b ≡ 40 → step p q (drop at text) ≡ bracketed p q (drop (at + 1) text)
-      unfolding step choose
-      step-bracket n e =
-          rw (one-not 97 6 text at byte no-letter, after-not text at byte n, after_is text at byte e (omega arith)) refl
+    pub step-bracket : slice_get text at ≡ Some 40 → step p q (drop at text) ≡ bracketed p q (drop (at + 1) text)
+    unfolding step choose
+    step-bracket e =
+        rw (
+          one-not text at 97 6 (not-in text at e (λ l h. omega arith)),
+          after-not text at {c = 33} (not-at text at e (λ z. omega arith)),
+          after_is text at e,
+        ) refl
 
-      pub step-rec : (b ≡ 33 → ⊥) → (b ≡ 40 → ⊥) → b ≡ 114
-          → step p q (drop at text) ≡ expects (101 ∷ 99 ∷ []) (looped p q) (drop (at + 1) text)
-      unfolding step choose
-      step-rec n m e =
-          rw (
-            one-not 97 6 text at byte no-letter,
-            after-not text at byte n,
-            after-not text at byte m,
-            after_is text at byte e (omega arith),
-          ) refl
+    pub step-rec : slice_get text at ≡ Some 114 → step p q (drop at text) ≡ expects (101 ∷ 99 ∷ []) (looped p q) (drop (at + 1) text)
+    unfolding step choose
+    step-rec e =
+        rw (
+          one-not text at 97 6 (not-in text at e (λ l h. omega arith)),
+          after-not text at {c = 33} (not-at text at e (λ z. omega arith)),
+          after-not text at {c = 40} (not-at text at e (λ z. omega arith)),
+          after_is text at e,
+        ) refl
 
-      pub step-leaf : (b ≡ 33 → ⊥) → (b ≡ 40 → ⊥) → (b ≡ 114 → ⊥) → step p q (drop at text) ≡ leaf (drop at text)
-      unfolding step choose
-      step-leaf n m o =
-          rw (
-            one-not 97 6 text at byte no-letter,
-            after-not text at byte n,
-            after-not text at byte m,
-            after-not text at byte o,
-          ) refl
+    pub step-leaf : NoneIn text at 97 103 → (slice_get text at ≡ Some 33 → ⊥) → (slice_get text at ≡ Some 40 → ⊥)
+        → (slice_get text at ≡ Some 114 → ⊥) → step p q (drop at text) ≡ leaf (drop at text)
+    unfolding step choose
+    step-leaf l m n o = rw (one-not text at 97 6 l, after-not text at m, after-not text at n, after-not text at o) refl
 
 -- with depth left, one step
 pub tight-step : (n depth : ℕ) → (depth ≡ 0 → ⊥) → (s : List ℕ)
@@ -105,15 +101,14 @@ module _ (p q : List ℕ → Parse) (s : List ℕ) where
   unfolding bracketed and_then
   bracket-fails e = rw e refl
 
-  pub bracket-stops : {t : Tree} {r : List ℕ} → q s ≡ parsed t r → (text : List ℕ) (at : ℕ) {b : ℕ} → r ≡ drop at text → b ≡ get_or text at 0
-      → (b ≡ 41 → ⊥) → bracketed p q s ≡ failed (drop at text)
-  unfolding bracketed and_then expects choose
-  bracket-stops e text at i byte n = rw (e, i, after-not text at byte n) refl
+  module _ {t : Tree} {r : List ℕ} (e : q s ≡ parsed t r) (text : List ℕ) (at : ℕ) (left : r ≡ drop at text) where
+    pub bracket-stops : (slice_get text at ≡ Some 41 → ⊥) → bracketed p q s ≡ failed (drop at text)
+    unfolding bracketed and_then expects choose
+    bracket-stops n = rw (e, left, after-not text at n) refl
 
-  pub bracket-ends : {t : Tree} {r : List ℕ} → q s ≡ parsed t r → (text : List ℕ) (at : ℕ) {b : ℕ} → r ≡ drop at text → b ≡ get_or text at 0
-      → b ≡ 41 → bracketed p q s ≡ parsed (bracket t) (drop (at + 1) text)
-  unfolding bracketed and_then expects choose
-  bracket-ends e text at i byte n = rw (e, i, after_is text at byte n (omega arith)) refl
+    pub bracket-ends : slice_get text at ≡ Some 41 → bracketed p q s ≡ parsed (bracket t) (drop (at + 1) text)
+    unfolding bracketed and_then expects choose
+    bracket-ends is = rw (e, left, after_is text at is) refl
 
 -- ---- what follows a part
 

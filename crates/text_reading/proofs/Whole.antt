@@ -2,6 +2,7 @@
 -- Assumes nothing.
 use mathlib.Core.Path.{◌≡◌, refl, ap, subst, ◌∙◌}
 use mathlib.Core.Bool.{true, false}
+use mathlib.Core.Option.{none}
 use mathlib.Core.List.{List, [], ◌∷◌, ◌++◌, map}
 use Prim.Native.Nat.{ℕ, ◌-◌, ◌≤◌, ◌<◌}
 use native.Mathlib.Omega.{arith}
@@ -12,16 +13,15 @@ use Rattle.model.specs.Contract.{has}
 use Rattle.text.specs.Grammar.{Tree}
 use Rattle.text.specs.Terms.{term_of}
 use Rattle.text.specs.Parser.{Parse, failed, parsed, whole_of, tight_at, ended, parse_of}
-use Rattle.text.specs.Convert.{most_deep}
+use Rattle.text.specs.Convert.{or_else, most_deep}
 use Rattle.text.specs.Cells.{packed, cells_in, no_owners, body_links}
-use Rattle.text_reading.specs.declared.Read.{Read}
 use Rattle.text_reading.specs.declared.Scope.{Scope}
-use Rattle.text_reading.specs.Reading.{listed, first_of, PartRead, ReadAs, WholeRead, TextRead}
+use Rattle.text_reading.specs.Reading.{Standing, listed, PartRead, ReadAs, WholeRead, TextRead}
 use Rattle.text_reading.proofs.Outcome.{failing, reading}
 
 -- where reading begins
-abbrev pub first : Read
-first = record { ok = true; at = 0; link = 0; places = 0; recs = 0; wrong = 256 }
+abbrev pub first : Standing
+first = record { ok = true; at = 0; link = 0; places = 0; recs = 0; wrong = none }
 
 -- with no variable
 abbrev pub nothing : Scope
@@ -42,7 +42,7 @@ not-both : {a : Parse} {t : Tree} {r s : List ℕ} → a ≡ failed r → a ≡ 
 not-both e f = let z : ◌≡◌ {A = ℕ} 0 1 = cc in omega arith
 
 -- no derivation can go on
-unread-so : {text cells : List ℕ} {r : List ℕ} {to : Read} {cells' bodies' : List ℕ} → parse_of most_deep text ≡ failed r → to.ok ≡ false
+unread-so : {text cells : List ℕ} {r : List ℕ} {to : Standing} {cells' bodies' : List ℕ} → parse_of most_deep text ≡ failed r → to.ok ≡ false
     → to.at ≡ length text - length r → TextRead text cells to cells' bodies'
 unread-so {text} e bad at_is =
     record {
@@ -51,9 +51,9 @@ unread-so {text} e bad at_is =
     }
 
 -- all was read
-whole-read : {text cells bodies : List ℕ} {t : Tree} {r : List ℕ} {part : Read} {cells' bodies' : List ℕ}
+whole-read : {text cells bodies : List ℕ} {t : Tree} {r : List ℕ} {part : Standing} {cells' bodies' : List ℕ}
     → PartRead text first nothing cells bodies t r part cells' bodies' → length cells ≡ 257 → WholeRead cells t [] part cells' bodies'
-unfolding no_owners body_links first_of listed keep has
+unfolding no_owners body_links or_else listed keep has
 whole-read {cells = cells} {t} part room =
     let front : take 1 cells ≡ get_or cells 0 0 ∷ [] = take-suc cells 0 0 (omega arith) in
     record {
@@ -67,7 +67,12 @@ whole-read {cells = cells} {t} part room =
       wrong_is = part.wrong_is;
     }
 
-module _ {text cells bodies : List ℕ} {part : Read} {cells' bodies' : List ℕ}
+-- the same of what the tables hold in the end
+pub kept : {text cells : List ℕ} {to : Standing} {cells' bodies' x y : List ℕ} → TextRead text cells to cells' bodies' → x ≡ cells'
+    → y ≡ bodies' → TextRead text cells to x y
+kept h e f = rw (e, f) h
+
+module _ {text cells bodies : List ℕ} {part : Standing} {cells' bodies' : List ℕ}
     (h : ReadAs text first nothing cells bodies (whole_of (length text) (tight_at (length text) 16) (drop 0 text)) part cells' bodies') where
   pub text-fails : part.ok ≡ false → TextRead text cells part cells' bodies'
   unfolding parse_of most_deep ended
@@ -76,7 +81,7 @@ module _ {text cells bodies : List ℕ} {part : Read} {cells' bodies' : List ℕ
       unread-so (ap ended w.1) bad (omega (arith, w.2.inside, ap length w.2.left, length-drop part.at text))
 
   module _ (fine : part.ok ≡ true) where
-    pub text-goes-on : part.at < length text → {to : Read} → (to.ok ≡ false) × (to.at ≡ part.at) → TextRead text cells to cells' bodies'
+    pub text-goes-on : part.at < length text → {to : Standing} → (to.ok ≡ false) × (to.at ≡ part.at) → TextRead text cells to cells' bodies'
     unfolding parse_of most_deep ended
     text-goes-on less k =
         let w = reading h fine in

@@ -2,437 +2,272 @@
 // of (+) is a loop. Request 7/13.
 #![tactic(auto)]
 
-ghost use Rattle.std.specs.Prelude.{◌≡◌, false, ◌&&◌, [], ◌∷◌, ◌++◌, ◌+◌, ◌≤◌, ◌<◌, length, get_or, take, drop, leb};
+ghost use Rattle.std.specs.Prelude.{◌≡◌, [], ◌∷◌, ◌+◌, ◌≤◌, ◌<◌, length, take, drop, slice_get, MatchResult};
 ghost use Rattle.text.specs.Grammar.{variable};
-ghost use Rattle.text.specs.Parser.{acted, bracketed, looped, expects};
+ghost use Rattle.text.specs.Parser.{leaf, acted, bracketed, looped, expects};
 ghost use Rattle.text.specs.Convert.{wrong_at, action_width, dropped, place_of_byte};
-ghost use Rattle.text_reading.specs.Reading.{tight_in, sums_in, whole_in, listed, or_none, first_of, onward, with_rec, prefixed_scope};
-ghost use Rattle.text_reading.specs.Reading.{InRec, CellPut, RecHead, Ready, ReadAs, LeafRead, TextRead};
+ghost use Rattle.text_reading.specs.Reading.{tight_in, sums_in, whole_in, listed, prefixed_scope, fault_in, left_by, InRec, TextRead};
+ghost use Rattle.text_reading.specs.Reader.{standing, before, InText, ByteIn, NoneIn, RecHead, Put, IsReady, Leaves};
 
-// Where reading stands: whether it can go on; the byte; what leads to the part that was read; how many places and recs were found; and the
-// first variable at fault, 256 if there is none.
+// What was read up to a byte: what leads to it, how many places and recs were found, and the first variable at fault.
 #[derive(Clone, Copy)]
 pub struct Read {
-    pub ok: bool,
     pub at: usize,
     pub link: u16,
     pub places: usize,
     pub recs: usize,
-    pub wrong: u16,
+    pub wrong: Option<u8>,
+}
+
+// No derivation can go on at this byte.
+#[derive(Clone, Copy, Debug, PartialEq, Eq)]
+pub struct Stopped {
+    pub at: usize,
 }
 
 // The variables at a place: those with a rec, those with a prefix between their rec and here, each as a bit; and the recs' numbers.
 #[derive(Clone, Copy)]
-pub struct Scope {
-    pub recs: u8,
-    pub prefixed: u8,
-    pub owners: [u8; 3],
+struct Scope {
+    recs: u8,
+    prefixed: u8,
+    owners: [u8; 3],
 }
 
-// The byte at a place; 0, which no text has, behind the last.
-fn byte_at(text: &[u8], at: usize) -> u8
-    ensures { result ≡ get_or text.now at 0 }
-{
-    if at < text.len() { text[at] } else { 0 }
-}
-
-// No derivation can go on at this byte.
-fn stopped(at: usize) -> Read
-    ensures { (result.ok ≡ false) × (result.at ≡ at) }
-{
-    Read {
-        ok: false,
-        at: at,
-        link: 0,
-        places: 0,
-        recs: 0,
-        wrong: 256,
-    }
-}
-
-// Further on in the text, with what leads to what was read.
-fn onwards(from: Read, at: usize, link: u16) -> Read
-    ensures { result ≡ onward from at link }
-{
-    Read {
-        ok: true,
-        at: at,
-        link: link,
-        places: from.places,
-        recs: from.recs,
-        wrong: from.wrong,
-    }
-}
-
-// Further on in the text, in one more rec.
-fn with_rec(from: Read, at: usize) -> Read
-    requires { from.recs < 256 }
-    ensures { result ≡ with_rec from at }
-{
-    Read {
-        ok: true,
-        at: at,
-        link: 0,
-        places: from.places,
-        recs: from.recs + 1,
-        wrong: from.wrong,
-    }
-}
-
-// The variables behind a prefix: all that have a rec have a prefix since.
-fn behind_prefix(scope: Scope) -> Scope
-    ensures { result ≡ prefixed_scope scope }
-{
-    let owners = scope.owners;
-    Scope {
-        recs: scope.recs,
-        prefixed: scope.recs,
-        owners: owners,
-    }
-}
-
-// The variables in a rec of a variable, with its number.
-fn in_rec(scope: Scope, v: u8, number: u8) -> Scope
-    requires { v < 3 }
-    ensures { InRec scope v number result }
-{
-    let mut owners = scope.owners;
-    let i = v as usize;
-    owners[i] = number;
-    let bit: u8 = 1 << v;
-    Scope {
-        recs: scope.recs | bit,
-        prefixed: scope.prefixed & (7 - bit),
-        owners: owners,
-    }
-}
-
-// The first variable at fault, with one more looked at.
-fn judged(from: Read, scope: Scope, v: u8) -> u16
-    requires { (v < 3) × (from.at < 256) }
-    ensures { result ≡ first_of from.wrong
-        (or_none (wrong_at (listed scope.recs) (listed scope.prefixed) from.at (variable v))) }
-{
-    if from.wrong != 256 {
-        return from.wrong;
-    }
-    if (scope.prefixed >> v) % 2 == 1 {
-        256
-    } else {
-        from.at as u16
-    }
-}
-
-// Whether a byte is one of those from `low` to `high`.
-fn within(b: u8, low: u8, high: u8) -> bool
-    ensures { result ≡ (leb low b && leb b high) }
-{
-    low <= b && b <= high
-}
-
-// What leads to the body of a rec with a number.
-fn to_body(number: u8) -> u16
-    ensures { result ≡ 256 + number }
-{
-    256 + number as u16
-}
-
-// With no depth left: 0 or a variable.
-fn read_leaf(text: &[u8], from: Read, scope: Scope) -> Read
-    requires { (from.at ≤ length text.now) × (length text.now ≤ 256) × (length scope.owners ≡ 3) }
-    ensures { LeafRead text.now from scope result }
-{
-    let b = byte_at(text, from.at);
-    if b == 48 {
-        return onwards(from, from.at + 1, 0);
-    }
-    if !within(b, 88, 90) {
-        return stopped(from.at);
-    }
-    let v = b - 88;
-    let i = v as usize;
-    let owners = scope.owners;
-    let link = to_body(owners[i]);
-    Read {
-        ok: true,
-        at: from.at + 1,
-        link: link,
-        places: from.places,
-        recs: from.recs,
-        wrong: judged(from, scope, v),
-    }
-}
-
-// A cell behind the others, and where reading stands then.
-fn put_cell(cells: &mut [u32], from: Read, kind: u8, left: u16, right: u16) -> Read
-    requires { (from.places < 256) × (length cells.old ≡ 257) }
-    ensures { CellPut cells.old from kind left right result cells.new }
-{
-    let place = from.places + 1;
-    cells[place] = kind as u32 + 16 * (left as u32) + 8192 * (right as u32);
-    Read {
-        ok: true,
-        at: from.at,
-        link: place as u16,
-        places: place,
-        recs: from.recs,
-        wrong: from.wrong,
-    }
-}
-
-// How many of the four bytes behind the r of a rec come: ec, a variable, a dot.
-fn rec_head(text: &[u8], at: usize) -> usize
-    requires { (at ≤ length text.now) × (length text.now ≤ 256) }
-    ensures { RecHead text.now at result }
-{
-    if byte_at(text, at) != 101 {
-        return 0;
-    }
-    if byte_at(text, at + 1) != 99 {
-        return 1;
-    }
-    if !within(byte_at(text, at + 2), 88, 90) {
-        return 2;
-    }
-    if byte_at(text, at + 3) != 46 {
-        return 3;
-    }
-    4
-}
-
-// Behind an action, which ends before `at`: a dot and a part, or the end.
-#[cycle(read_behind_read_bracket_read_rec_read_sums_read_tight_read_whole)]
-fn read_behind(
-    text: &[u8],
-    from: Read,
+// A text that is read, and where reading stands: the byte; the cells and the bodies of recs, with how many were found; and the first
+// variable at fault.
+#[derive(Drop)]
+struct Reader<'a> {
+    text: &'a [u8],
     at: usize,
-    depth: usize,
-    scope: Scope,
-    action: u8,
-    cells: &mut [u32],
-    bodies: &mut [u16],
-) -> Read
-    requires { Ready text.now from scope cells.old bodies.old × (at ≡ from.at + action_width action) × (at ≤ length text.now) }
-    ensures { ReadAs text.now from scope cells.old bodies.old
-        (acted (tight_in text.now depth) (whole_in text.now depth) action (drop at text.now))
-        result cells.new bodies.new }
-{
-    let here = onwards(from, at, 0);
-    if byte_at(text, at) != 46 {
-        return put_cell(cells, here, action, 0, 0);
-    }
-    let part = read_tight(
-        text,
-        onwards(from, at + 1, 0),
-        depth,
-        behind_prefix(scope),
-        cells,
-        bodies,
-    );
-    if !part.ok {
-        return part;
-    }
-    put_cell(cells, part, action, part.link, 0)
+    cells: &'a mut [u32],
+    places: usize,
+    bodies: &'a mut [u16],
+    recs: usize,
+    wrong: Option<u8>,
 }
 
-// At (: a whole part behind it, and ).
-#[cycle(read_behind_read_bracket_read_rec_read_sums_read_tight_read_whole)]
-fn read_bracket(
-    text: &[u8],
-    from: Read,
-    depth: usize,
-    scope: Scope,
-    cells: &mut [u32],
-    bodies: &mut [u16],
-) -> Read
-    requires { Ready text.now from scope cells.old bodies.old × (from.at < length text.now) }
-    ensures { ReadAs text.now from scope cells.old bodies.old
-        (bracketed (tight_in text.now depth) (whole_in text.now depth) (drop (from.at + 1) text.now))
-        result cells.new bodies.new }
-{
-    let part = read_whole(
-        text,
-        onwards(from, from.at + 1, 0),
-        depth,
-        scope,
-        cells,
-        bodies,
-    );
-    if !part.ok {
-        return part;
-    }
-    if byte_at(text, part.at) != 41 {
-        return stopped(part.at);
-    }
-    onwards(part, part.at + 1, part.link)
-}
-
-// At r: ec behind it, a variable, a dot, and the body.
-#[cycle(read_behind_read_bracket_read_rec_read_sums_read_tight_read_whole)]
-fn read_rec(
-    text: &[u8],
-    from: Read,
-    depth: usize,
-    scope: Scope,
-    cells: &mut [u32],
-    bodies: &mut [u16],
-) -> Read
-    requires { Ready text.now from scope cells.old bodies.old × (from.at < length text.now) }
-    ensures { ReadAs text.now from scope cells.old bodies.old
-        (expects (101 ∷ 99 ∷ []) (looped (tight_in text.now depth) (whole_in text.now depth))
-        (drop (from.at + 1) text.now))
-        result cells.new bodies.new }
-{
-    let head = rec_head(text, from.at + 1);
-    if head < 4 {
-        return stopped(from.at + 1 + head);
-    }
-    let v = byte_at(text, from.at + 3) - 88;
-    let number = from.recs;
-    let inner = in_rec(scope, v, number as u8);
-    let body = read_tight(
-        text,
-        with_rec(from, from.at + 5),
-        depth,
-        inner,
-        cells,
-        bodies,
-    );
-    if !body.ok {
-        return body;
-    }
-    bodies[number] = body.link;
-    body
-}
-
-// tight ::= 0 | variable | action | action . tight | rec variable . tight | ( whole )
-#[cycle(read_behind_read_bracket_read_rec_read_sums_read_tight_read_whole)]
-fn read_tight(
-    text: &[u8],
-    from: Read,
-    depth: usize,
-    scope: Scope,
-    cells: &mut [u32],
-    bodies: &mut [u16],
-) -> Read
-    requires { Ready text.now from scope cells.old bodies.old }
-    ensures { ReadAs text.now from scope cells.old bodies.old
-        (tight_in text.now depth (drop from.at text.now))
-        result cells.new bodies.new }
-{
-    if depth == 0 {
-        return read_leaf(text, from, scope);
-    }
-    let at = from.at;
-    let b = byte_at(text, at);
-    if within(b, 97, 103) {
-        return read_behind(text, from, at + 1, depth - 1, scope, b - 97, cells, bodies);
-    }
-    if b == 33 {
-        let c = byte_at(text, at + 1);
-        if !within(c, 97, 103) {
-            return stopped(at + 1);
+impl Scope {
+    // The variables behind a prefix: all that have a rec have a prefix since.
+    fn behind_prefix(self) -> Scope
+        ensures { result ≡ prefixed_scope self }
+    {
+        Scope {
+            prefixed: self.recs,
+            ..self
         }
-        return read_behind(text, from, at + 2, depth - 1, scope, c - 90, cells, bodies);
     }
-    if b == 40 {
-        return read_bracket(text, from, depth - 1, scope, cells, bodies);
+
+    // The variables in a rec of a variable, with its number.
+    fn in_rec(mut self, v: u8, number: u8) -> Scope
+        requires { v < 3 }
+        ensures { InRec self v number result }
+    {
+        let bit: u8 = 1 << v;
+        self.owners[usize::from(v)] = number;
+        self.recs |= bit;
+        self.prefixed &= 7 - bit;
+        self
     }
-    if b == 114 {
-        return read_rec(text, from, depth - 1, scope, cells, bodies);
+
+    // A variable is at fault at a byte if it has no prefix between its rec and here.
+    fn fault_at(self, at: usize, v: u8) -> Option<u8>
+        requires { (v < 3) × (at < 256) }
+        ensures { fault_in result ≡ wrong_at (listed self.recs) (listed self.prefixed) at (variable v) }
+    {
+        if (self.prefixed >> v) % 2 == 1 {
+            None
+        } else {
+            Some(at as u8)
+        }
     }
-    read_leaf(text, from, scope)
 }
 
-// sums ::= tight | sums + tight
-#[cycle(read_behind_read_bracket_read_rec_read_sums_read_tight_read_whole)]
-fn read_sums(
-    text: &[u8],
-    from: Read,
-    depth: usize,
-    scope: Scope,
-    cells: &mut [u32],
-    bodies: &mut [u16],
-) -> Read
-    requires { Ready text.now from scope cells.old bodies.old }
-    ensures { ReadAs text.now from scope cells.old bodies.old
-        (sums_in text.now depth (drop from.at text.now))
-        result cells.new bodies.new }
-{
-    let mut part = read_tight(text, from, depth, scope, cells, bodies);
-    if !part.ok {
-        return part;
+impl Reader<'_> {
+    // The byte so many places ahead.
+    fn byte(&self, ahead: usize) -> Option<u8>
+        requires { InText self.now × (ahead ≤ 4) }
+        ensures { result ≡ slice_get self.now.text.now (self.now.at + ahead) }
+    {
+        self.text.get(self.at + ahead).copied()
     }
-    while byte_at(text, part.at) == 43 {
-        let next = read_tight(
-            text,
-            onwards(part, part.at + 1, 0),
-            depth,
-            scope,
-            cells,
-            bodies,
-        );
-        if !next.ok {
-            return next;
-        }
-        part = put_cell(cells, next, 14, part.link, next.link);
-    }
-    part
-}
 
-// whole ::= sums | whole (+) sums
-#[cycle(read_behind_read_bracket_read_rec_read_sums_read_tight_read_whole)]
-fn read_whole(
-    text: &[u8],
-    from: Read,
-    depth: usize,
-    scope: Scope,
-    cells: &mut [u32],
-    bodies: &mut [u16],
-) -> Read
-    requires { Ready text.now from scope cells.old bodies.old }
-    ensures { ReadAs text.now from scope cells.old bodies.old
-        (whole_in text.now depth (drop from.at text.now))
-        result cells.new bodies.new }
-{
-    let mut part = read_sums(text, from, depth, scope, cells, bodies);
-    if !part.ok {
-        return part;
+    // A byte that must come there.
+    fn expect(&self, ahead: usize, b: u8) -> Result<(), Stopped>
+        requires { InText self.now × (ahead ≤ 4) }
+        ensures { MatchResult result (λ _. slice_get self.now.text.now (self.now.at + ahead) ≡ Some b)
+            (λ e. (e.at ≡ self.now.at + ahead) × (slice_get self.now.text.now (self.now.at + ahead) ≡ Some b → ⊥)) }
+    {
+        if self.byte(ahead) == Some(b) {
+            Ok(())
+        } else {
+            Err(Stopped {
+                at: self.at + ahead,
+            })
+        }
     }
-    while byte_at(text, part.at) == 40 {
-        if byte_at(text, part.at + 1) != 43 {
-            return stopped(part.at + 1);
-        }
-        if byte_at(text, part.at + 2) != 41 {
-            return stopped(part.at + 2);
-        }
-        let next = read_sums(
-            text,
-            onwards(part, part.at + 3, 0),
-            depth,
-            scope,
-            cells,
-            bodies,
-        );
-        if !next.ok {
-            return next;
-        }
-        part = put_cell(cells, next, 15, part.link, next.link);
-    }
-    part
-}
 
-// A byte put behind the others unless it is a blank, and how many there are then.
-fn keep_byte(out: &mut [u8], count: usize, b: u8) -> usize
-    requires { count < length out.old }
-    ensures { (take result out.new ≡ take count out.old ++ dropped (b ∷ []))
-        × (result ≡ count + length (dropped (b ∷ []))) }
-{
-    if b == 32 {
-        return count;
+    // One of the letters from `low` to `high`, as its number among them.
+    fn letter(&self, ahead: usize, low: u8, high: u8) -> Result<u8, Stopped>
+        requires { InText self.now × (ahead ≤ 4) }
+        ensures { MatchResult result (ByteIn self.now.text.now (self.now.at + ahead) low high)
+            (λ e. (e.at ≡ self.now.at + ahead) × NoneIn self.now.text.now (self.now.at + ahead) low high) }
+    {
+        match self.byte(ahead) {
+            Some(b) if (low..=high).contains(&b) => Ok(b - low),
+            _ => Err(Stopped {
+                at: self.at + ahead,
+            }),
+        }
     }
-    out[count] = b;
-    count + 1
+
+    // Behind the r of a rec: ec, a variable and a dot. Gives the variable.
+    fn rec_head(&self) -> Result<u8, Stopped>
+        requires { (self.now.at < length self.now.text.now) × (length self.now.text.now ≤ 256) }
+        ensures { RecHead self.now.text.now self.now.at result }
+    {
+        self.expect(1, b'e')?;
+        self.expect(2, b'c')?;
+        let v = self.letter(3, b'X', b'Z')?;
+        self.expect(4, b'.')?;
+        Ok(v)
+    }
+
+    // With no depth left: 0 or a variable.
+    fn leaf(&mut self, scope: Scope) -> Result<u16, Stopped>
+        requires { IsReady self.old (standing self.old 0) scope }
+        ensures { Leaves self.old (standing self.old 0) scope (leaf (drop self.old.at self.old.text.now)) result self.new }
+    {
+        if self.byte(0) == Some(b'0') {
+            self.at += 1;
+            return Ok(0);
+        }
+        let v = self.letter(0, b'X', b'Z')?;
+        self.wrong = self.wrong.or(scope.fault_at(self.at, v));
+        self.at += 1;
+        Ok(256 + u16::from(scope.owners[usize::from(v)]))
+    }
+
+    // A cell behind the others, and what leads to it.
+    fn put_cell(&mut self, kind: u8, left: u16, right: u16) -> u16
+        requires { (self.old.places < 256) × (length self.old.cells.now ≡ 257) }
+        ensures { Put self.old kind left right result self.new }
+    {
+        self.places += 1;
+        self.cells[self.places] = u32::from(kind) + 16 * u32::from(left) + 8192 * u32::from(right);
+        self.places as u16
+    }
+
+    // Behind an action: a dot and a part, or the end.
+    #[cycle(grammar)]
+    fn behind(&mut self, action: u8, depth: usize, scope: Scope) -> Result<u16, Stopped>
+        requires { IsReady self.old (before action self.old) scope × (action_width action ≤ self.old.at)
+            × (self.old.at ≤ length self.old.text.now) }
+        ensures { Leaves self.old (before action self.old) scope
+            (acted (tight_in self.old.text.now depth) (whole_in self.old.text.now depth) action (drop self.old.at self.old.text.now))
+            result self.new }
+    {
+        if self.byte(0) != Some(b'.') {
+            return Ok(self.put_cell(action, 0, 0));
+        }
+        self.at += 1;
+        let part = self.tight(depth, scope.behind_prefix())?;
+        Ok(self.put_cell(action, part, 0))
+    }
+
+    // At (: a whole part behind it, and ).
+    #[cycle(grammar)]
+    fn bracket(&mut self, depth: usize, scope: Scope) -> Result<u16, Stopped>
+        requires { IsReady self.old (standing self.old 0) scope × (self.old.at < length self.old.text.now) }
+        ensures { Leaves self.old (standing self.old 0) scope
+            (bracketed (tight_in self.old.text.now depth) (whole_in self.old.text.now depth)
+            (drop (self.old.at + 1) self.old.text.now))
+            result self.new }
+    {
+        self.at += 1;
+        let part = self.whole(depth, scope)?;
+        self.expect(0, b')')?;
+        self.at += 1;
+        Ok(part)
+    }
+
+    // At r: ec behind it, a variable, a dot, and the body.
+    #[cycle(grammar)]
+    fn rec(&mut self, depth: usize, scope: Scope) -> Result<u16, Stopped>
+        requires { IsReady self.old (standing self.old 0) scope × (self.old.at < length self.old.text.now) }
+        ensures { Leaves self.old (standing self.old 0) scope
+            (expects (101 ∷ 99 ∷ []) (looped (tight_in self.old.text.now depth) (whole_in self.old.text.now depth))
+            (drop (self.old.at + 1) self.old.text.now))
+            result self.new }
+    {
+        let v = self.rec_head()?;
+        let number = self.recs;
+        self.at += 5;
+        self.recs += 1;
+        let body = self.tight(depth, scope.in_rec(v, number as u8))?;
+        self.bodies[number] = body;
+        Ok(body)
+    }
+
+    // tight ::= 0 | variable | action | action . tight | rec variable . tight | ( whole )
+    #[cycle(grammar)]
+    fn tight(&mut self, depth: usize, scope: Scope) -> Result<u16, Stopped>
+        requires { IsReady self.old (standing self.old 0) scope }
+        ensures { Leaves self.old (standing self.old 0) scope
+            (tight_in self.old.text.now depth (drop self.old.at self.old.text.now)) result self.new }
+    {
+        if depth == 0 {
+            return self.leaf(scope);
+        }
+        match self.byte(0) {
+            Some(b @ b'a'..=b'g') => {
+                self.at += 1;
+                self.behind(b - b'a', depth - 1, scope)
+            }
+            Some(b'!') => {
+                let name = self.letter(1, b'a', b'g')?;
+                self.at += 2;
+                self.behind(7 + name, depth - 1, scope)
+            }
+            Some(b'(') => self.bracket(depth - 1, scope),
+            Some(b'r') => self.rec(depth - 1, scope),
+            _ => self.leaf(scope),
+        }
+    }
+
+    // sums ::= tight | sums + tight
+    #[cycle(grammar)]
+    fn sums(&mut self, depth: usize, scope: Scope) -> Result<u16, Stopped>
+        requires { IsReady self.old (standing self.old 0) scope }
+        ensures { Leaves self.old (standing self.old 0) scope
+            (sums_in self.old.text.now depth (drop self.old.at self.old.text.now)) result self.new }
+    {
+        let mut part = self.tight(depth, scope)?;
+        while self.byte(0) == Some(b'+') {
+            self.at += 1;
+            let next = self.tight(depth, scope)?;
+            part = self.put_cell(14, part, next);
+        }
+        Ok(part)
+    }
+
+    // whole ::= sums | whole (+) sums
+    // Not one function with sums: each is a rule of the grammar, and sign, item and kind are most of it.
+    #[cycle(grammar)]
+    fn whole(&mut self, depth: usize, scope: Scope) -> Result<u16, Stopped>
+        requires { IsReady self.old (standing self.old 0) scope }
+        ensures { Leaves self.old (standing self.old 0) scope
+            (whole_in self.old.text.now depth (drop self.old.at self.old.text.now)) result self.new }
+    {
+        let mut part = self.sums(depth, scope)?;
+        while self.byte(0) == Some(b'(') {
+            self.expect(1, b'+')?;
+            self.expect(2, b')')?;
+            self.at += 3;
+            let next = self.sums(depth, scope)?;
+            part = self.put_cell(15, part, next);
+        }
+        Ok(part)
+    }
 }
 
 // The text without its blanks, and how many bytes that has.
@@ -441,10 +276,12 @@ pub fn strip(text: &[u8], out: &mut [u8]) -> usize
     ensures { (take result out.new ≡ dropped text.now) × (result ≡ length (dropped text.now)) }
 {
     let mut count = 0;
-    let mut i = 0;
-    while i < text.len() {
-        count = keep_byte(out, count, text[i]);
-        i = i + 1;
+    for &b in text {
+        if b == b' ' {
+            continue;
+        }
+        out[count] = b;
+        count += 1;
     }
     count
 }
@@ -454,46 +291,46 @@ pub fn place_of_byte(text: &[u8], i: usize) -> usize
     ensures { result ≡ place_of_byte text.now i }
 {
     let mut left = i;
-    let mut at = 0;
-    while at < text.len() {
-        if text[at] == 32 {
-            at = at + 1;
+    for (at, b) in text.iter().enumerate() {
+        if *b == b' ' {
             continue;
         }
         if left == 0 {
             return at;
         }
-        left = left - 1;
-        at = at + 1;
+        left -= 1;
     }
-    at
+    text.len()
 }
 
 // A text without blanks, read into cells and bodies of recs, at most 16 deep.
-pub fn read_text(text: &[u8], cells: &mut [u32], bodies: &mut [u16]) -> Read
+pub fn read_text(text: &[u8], cells: &mut [u32], bodies: &mut [u16]) -> Result<Read, Stopped>
     requires { (length text.now ≤ 256) × (length cells.old ≡ 257) × (length bodies.old ≡ 64) }
-    ensures { TextRead text.now cells.old
-        result cells.new bodies.new }
+    ensures { TextRead text.now cells.old (left_by result) cells.new bodies.new }
 {
-    let from = Read {
-        ok: true,
+    let mut reader = Reader {
+        text,
         at: 0,
-        link: 0,
+        cells,
         places: 0,
+        bodies,
         recs: 0,
-        wrong: 256,
+        wrong: None,
     };
     let scope = Scope {
         recs: 0,
         prefixed: 0,
         owners: [0, 0, 0],
     };
-    let part = read_whole(text, from, 16, scope, cells, bodies);
-    if !part.ok {
-        return part;
+    let link = reader.whole(16, scope)?;
+    if reader.at < text.len() {
+        return Err(Stopped { at: reader.at });
     }
-    if part.at < text.len() {
-        return stopped(part.at);
-    }
-    part
+    Ok(Read {
+        at: reader.at,
+        link,
+        places: reader.places,
+        recs: reader.recs,
+        wrong: reader.wrong,
+    })
 }

@@ -1,20 +1,19 @@
 -- `text_reading::read_text` meets its contract: what was read is a whole text if nothing is left behind it.
 -- Assumes nothing.
-use borrow.Author.Tests.{not-true, not-false}
-use Rattle.text_reading.proofs.Whole.{text-fails, text-goes-on, text-ends}
+use mathlib.Core.Path.{refl}
+use Rattle.std.proofs.Common.{rules}
+use Rattle.std.proofs.lemmas.Result.{err_from_is_err_and}
+use Rattle.text_reading.proofs.Whole.{kept, text-fails, text-goes-on, text-ends}
 use Rattle.text_reading.proofs.read_text.Goals as goal
 
-pub returns-then-not-part : goal.returns-then-not-part
-returns-then-not-part c =
-    text-fails c.read_whole-part.ensures (not-true c.read_whole-part.result.ok c.if-not-part.true)
+pub returns-in_err-link : goal.returns-in_err-link
+returns-in_err-link c =
+    let e = err_from_is_err_and c.from_residual.result c.from_residual.ensures.1 in
+    rw (e.1, e.2) (kept (text-fails c.in_err-link.ensures.left refl) (search rules) (search rules))
 
-pub returns-then-part-text : goal.returns-then-part-text
-returns-then-part-text c =
-    text-goes-on c.read_whole-part.ensures (not-false c.read_whole-part.result.ok c.if-not-part.false)
-    c.if-part-text.true
-    c.stopped.ensures
+pub returns-then-reader-text : goal.returns-then-reader-text
+returns-then-reader-text c =
+    kept (text-goes-on c.in_ok-link.ensures.left refl c.if-reader-text.true (refl, refl)) (search rules) (search rules)
 
 pub returns : goal.returns
-returns c =
-    text-ends c.read_whole-part.ensures (not-false c.read_whole-part.result.ok c.if-not-part.false) c.if-part-text.false
-    c.requires.1
+returns c = kept (text-ends c.in_ok-link.ensures.left refl c.if-reader-text.false c.requires.1) (search rules) (search rules)
