@@ -25,12 +25,14 @@ use Rattle.keys.proofs.Keys.{Fits}
 use Rattle.table.specs.declared.Record.{Record}
 use Rattle.table.specs.Lists.{keys_of, links_of}
 use Rattle.table.specs.States.{SearchedTable}
-use Rattle.reached.specs.Reached.{Searchable, Explored}
-use Rattle.lists.specs.Known.{count_by}
-use Rattle.lists.proofs.search.Count.{count_none, count-some}
-use Rattle.connect.specs.Answers.{answer_of, refusing, connected_from, Writes}
+use Rattle.reached.specs.declared.Full.{Full}
+use Rattle.reached.specs.Reached.{Searchable, found_by, Explored}
+use Rattle.std.specs.Prelude.{Result, Ok, Err}
+use Rattle.connect.specs.Answers.{refusing, connected_from, Writes}
 use Rattle.connect.specs.Related.{related_in, related_from}
-use Rattle.connect.specs.declared.Answer.{Answer}
+use Rattle.connect.specs.declared.Accepted.{Accepted}
+use Rattle.connect.specs.declared.NoPlan.{NoPlan}
+use Rattle.connect.specs.declared.NoPlan.TheVariants.{Capacity}
 use Rattle.connect.proofs.Table.{HoldsSearch, related-table}
 
 -- ---- reached situations fit their keys
@@ -65,7 +67,7 @@ search-needs work old_sheet new_sheet rank e =
 
 -- ---- the outcome
 
-module _ (k : ℕ) (old new : List ℕ) (limit count : ℕ) (ys ys' : List Record) (explored : Explored old new k limit count ys ys') where
+module _ (k : ℕ) (old new : List ℕ) (limit : ℕ) (ys ys' : List Record) where
   abbrev σ : Contract
   σ = contract_in old
 
@@ -75,37 +77,42 @@ module _ (k : ℕ) (old new : List ℕ) (limit count : ℕ) (ys ys' : List Recor
   abbrev search : Search Situation
   search = search_from same codes (next (alike k) σ τ) limit start
 
-  -- the start is among what was found, if nothing is left
-  some-found : search.todo ≡ [] → 0 < length search.done
-  some-found whole = go search.done (search-all same is_same codes (next (alike k) σ τ) start limit whole start (at_start refl))
-    where
-      go : (l : List Situation) → Memᴰ start l → 0 < length l
-      go [] m = absurd (Memᴰ.not-nil m)
-      go (s ∷ l) m = omega arith
-
   -- 11
-  pub writes-over : (mode : Mode) → count ≡ 0 → limit ≡ limit_of (length ys) → (r : Answer) (plan : List ℕ)
-      → answer_of r ≡ refusing 11 0 0 0
-      → Writes (connected_from mode k old new (length ys) (length plan)) r plan plan
+  pub writes-over : {full : Full} → Explored old new k limit (Err full) ys ys' → (mode : Mode) → limit ≡ limit_of (length ys) → (plan : List ℕ)
+      → Writes (connected_from mode k old new (length ys) (length plan)) (Err Capacity) plan plan
   unfolding connected found refused plain refusing
-  writes-over mode none l r plan a =
-      subst (λ (limit : ℕ). Writes (connected (test_of mode old new) k σ τ limit (length plan)) r plan plan) l (go search.todo refl)
+  writes-over {full} explored mode l plan =
+      subst (λ (limit : ℕ). Writes (connected (test_of mode old new) k σ τ limit (length plan)) (Err Capacity) plan plan) l
+      (go search.todo refl)
     where
-      go : (t : List Situation) → search.todo ≡ t → Writes (connected (test_of mode old new) k σ τ limit (length plan)) r plan plan
-      go [] e = absurd (count_none search.todo (length search.done) (sym explored.answer ∙ none) (some-found e) e)
+      go : (t : List Situation) → search.todo ≡ t → Writes (connected (test_of mode old new) k σ τ limit (length plan)) (Err Capacity) plan plan
+      go [] e = let some : Err full ≡ Ok (length search.done) = explored.answer ∙ ap (λ (t : List Situation). found_by t (length search.done)) e in cc
       go (s ∷ t) e =
-          subst⁻¹ (λ (o : Outcome). Writes o r plan plan) (ap (found (test_of mode old new) k σ τ (length plan) search.done) e)
-          (record { answer = a; written = sym (front-none plan) })
+          subst⁻¹ (λ (o : Outcome). Writes o (Err Capacity) plan plan) (ap (found (test_of mode old new) k σ τ (length plan) search.done) e)
+          (record { answer = refl; written = sym (front-none plan) })
 
-  module _ (old_sheet : IsSheet old) (new_sheet : IsSheet new) (rank : k ≤ 3) (some : count ≡ 0 → ⊥) where
-    counted-some : (search.todo ≡ []) × (count_by search.todo (length search.done) ≡ length search.done)
-    counted-some = count-some search.todo (length search.done) (λ e. some (explored.answer ∙ e))
+  module _ {count : ℕ} (explored : Explored old new k limit (Ok count) ys ys') (old_sheet : IsSheet old) (new_sheet : IsSheet new) (rank : k ≤ 3) where
+    -- nothing is left to do
+    whole-found : (search.todo ≡ []) × (length search.done ≡ count)
+    whole-found = go search.todo refl
+      where
+        go : (t : List Situation) → search.todo ≡ t → (search.todo ≡ []) × (length search.done ≡ count)
+        go [] e =
+            let same : Ok count ≡ Ok (length search.done) = explored.answer ∙ ap (λ (t : List Situation). found_by t (length search.done)) e in
+            (e, cc)
+        go (s ∷ t) e =
+            let none : ◌≡◌ {A = Result ℕ Full} (Ok count) (Err (record {})) = explored.answer ∙ ap (λ (t : List Situation). found_by t (length search.done)) e in cc
 
     whole : search.todo ≡ []
-    whole = counted-some.0
+    whole = whole-found.0
 
-    counted-all : length search.done ≡ count
-    counted-all = sym (explored.answer ∙ counted-some.1)
+    -- the start is among what was found
+    some-found : 0 < length search.done
+    some-found = go search.done (search-all same is_same codes (next (alike k) σ τ) start limit whole start (at_start refl))
+      where
+        go : (l : List Situation) → Memᴰ start l → 0 < length l
+        go [] m = absurd (Memᴰ.not-nil m)
+        go (s ∷ l) m = omega arith
 
     held : HoldsSearch k σ τ limit (keys_of ys') (links_of ys')
     held =
@@ -117,22 +124,23 @@ module _ (k : ℕ) (old new : List ℕ) (limit count : ℕ) (ys ys' : List Recor
           links-hold = explored.links whole;
         }
 
-    module _ (limit_is : limit ≡ limit_of (length ys)) (total : ℕ) (total-is : total ≡ count) where
+    module _ {total : ℕ} (total-is : total ≡ count) where
       is-total : length search.done ≡ total
-      is-total = counted-all ∙ sym total-is
+      is-total = whole-found.1 ∙ sym total-is
 
       -- what the rounds ask of the records, and that there are some
       pub searched-table : SearchedTable old new total ys'
       searched-table = subst (λ (n : ℕ). SearchedTable old new n ys') is-total (explored.searched whole)
 
       pub some-total : 0 < total
-      some-total = omega (arith, is-total, some-found whole)
+      some-total = omega (arith, is-total, some-found)
 
       -- what follows
-      pub writes-whole : (mode : Mode) (r : Answer) (plan plan' : List ℕ) → Writes (related_from mode k old new total ys' (length plan)) r plan plan'
+      pub writes-whole : (mode : Mode) → limit ≡ limit_of (length ys) → {r : Result Accepted NoPlan} (plan plan' : List ℕ)
+          → Writes (related_from mode k old new total ys' (length plan)) r plan plan'
           → Writes (connected_from mode k old new (length ys) (length plan)) r plan plan'
       unfolding connected found
-      writes-whole mode r plan plan' w =
+      writes-whole mode limit_is {r} plan plan' w =
           let over-found : related_in (test_of mode old new) k σ.n (keys_of ys') (links_of ys') total (length plan) ≡ related (test_of mode old new) k σ τ (length plan) search.done =
           ap (λ (n : ℕ). related_in (test_of mode old new) k σ.n (keys_of ys') (links_of ys') n (length plan)) (sym is-total)
           ∙ related-table k σ τ limit (keys_of ys') (links_of ys') held (test_of mode old new) (length plan) in

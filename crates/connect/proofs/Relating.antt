@@ -28,10 +28,13 @@ use Rattle.lists.specs.Sifted.{sifted_in, SiftedDone}
 use Rattle.rounds.specs.Work.{SiftedWork}
 use Rattle.lists.specs.Kept.{kept_rows}
 use Rattle.numbering.specs.Table.{kept_rows_at, UnnumberedTable}
-use Rattle.connect.specs.Answers.{answer_of, counting, Writes}
+use Rattle.std.specs.Prelude.{Result, Err}
+use Rattle.connect.specs.Answers.{Writes}
 use Rattle.connect.specs.Related.{related_in, related_from, emitted_from}
 use Rattle.connect.proofs.Emitting.{writes-none}
-use Rattle.connect.specs.declared.Answer.{Answer}
+use Rattle.connect.specs.declared.Accepted.{Accepted}
+use Rattle.connect.specs.declared.NoPlan.{NoPlan}
+use Rattle.connect.specs.declared.NoPlan.TheVariants.{NoAdapter}
 
 -- ---- the start among the unmarked
 
@@ -90,13 +93,13 @@ module _ (mode : Mode) (k : ℕ) (old new : List ℕ) (count rounds : ℕ) (ys :
     start-mark = marks-at ys' 0 start-there ∙ ap (λ (y : Record). y.mark) (sym y-is)
 
     -- 12
-    pub relate-removed : (y.mark ≡ 0 → ⊥) → (r : Answer) (plan : List ℕ) → answer_of r ≡ counting 12 count 0 rounds 0
-        → Writes (related_from mode k old new count ys (length plan)) r plan plan
-    relate-removed n r plan a =
-        subst⁻¹ (λ (o : Outcome). Writes o r plan plan)
+    pub relate-removed : (y.mark ≡ 0 → ⊥) → (plan : List ℕ)
+        → Writes (related_from mode k old new count ys (length plan)) (Err (NoAdapter count rounds)) plan plan
+    relate-removed n plan =
+        subst⁻¹ (λ (o : Outcome). Writes o (Err (NoAdapter count rounds)) plan plan)
         (related-removed (test_of mode old new) k (contract_in old).n (keys_of ys) (links_of ys) count (length plan) rounds (marks_of ys) (marks_of ys')
         sifted.done some (λ e. n (sym start-mark ∙ e)))
-        (writes-none 12 count 0 rounds r plan a)
+        (writes-none 12 count 0 rounds plan refl)
 
     module _ (kept : y.mark ≡ 0) where
       -- what the numbering asks of the records
@@ -117,10 +120,10 @@ module _ (mode : Mode) (k : ℕ) (old new : List ℕ) (count rounds : ℕ) (ys :
           }
 
       -- 13 or acceptance
-      pub relate-kept : (r : Answer) (plan plan' : List ℕ) → Writes (emitted_from k old count rounds ys' (length plan)) r plan plan'
+      pub relate-kept : {r : Result Accepted NoPlan} (plan plan' : List ℕ) → Writes (emitted_from k old count rounds ys' (length plan)) r plan plan'
           → Writes (related_from mode k old new count ys (length plan)) r plan plan'
       unfolding kept_rows_at
-      relate-kept r plan plan' w =
+      relate-kept {r} plan plan' w =
           subst⁻¹ (λ (o : Outcome). Writes o r plan plan')
           (related-kept (test_of mode old new) k (contract_in old).n (keys_of ys) (links_of ys) count (length plan) rounds (marks_of ys) (marks_of ys')
           sifted.done some (start-mark ∙ kept))

@@ -2,7 +2,7 @@
 // their order".
 #![tactic(auto)]
 
-ghost use Rattle.std.specs.Prelude.{◌≡◌, ◌≤◌, ◌<◌, length, leb};
+ghost use Rattle.std.specs.Prelude.{◌≡◌, ◌≤◌, ◌<◌, length};
 ghost use Rattle.model.specs.Test.{paper};
 ghost use Rattle.model.specs.Connect.{limit_of, connect_of};
 ghost use Rattle.sheet.specs.Whole.{IsSheet};
@@ -10,10 +10,9 @@ ghost use Rattle.moves.specs.Modes.{mode_of};
 ghost use Rattle.table.specs.Records.{blank};
 ghost use Rattle.table.specs.States.{SearchedTable};
 ghost use Rattle.numbering.specs.Table.{UnnumberedTable};
-ghost use Rattle.connect.specs.Answers.{answer_of, refusing, counting, connected_from, Writes, Admits};
-ghost use Rattle.connect.specs.Related.{related_from, emitted_from};
-
-use pair::Pair;
+ghost use Rattle.connect.specs.declared.NoPlan.TheVariants.{Pair, Capacity};
+ghost use Rattle.connect.specs.Answers.{answer_of, refusing, counting, answer_for, answer_with, Writes, Admits};
+ghost use Rattle.connect.specs.Related.{connected_by, related_by, emitted_by};
 
 // What connecting answers: number, sheet and state of a refusal, and the offset of the byte at fault; situations, plan states and rounds;
 // the plan's length.
@@ -30,15 +29,67 @@ pub struct Answer {
     pub length: u32,
 }
 
+// Why there is no plan: the two sheets cannot be used together; k is above 3; more situations are reached than there are records, or 4,096;
+// the start is removed; the plan is longer than the lent one. For the last two there are counts.
+#[derive(Clone, Copy, Debug, PartialEq, Eq)]
+enum NoPlan {
+    Pair(pair::Refusal),
+    Rank,
+    Capacity,
+    NoAdapter {
+        situations: u16,
+        rounds: u16,
+    },
+    Room {
+        situations: u16,
+        states: u16,
+        rounds: u16,
+    },
+}
+
+// The counts of a plan that is written: situations, its states, rounds, and its length.
+#[derive(Clone, Copy, Debug, PartialEq, Eq)]
+struct Accepted {
+    situations: u16,
+    states: u16,
+    rounds: u16,
+    length: u32,
+}
+
+// What is to be connected: two sheets, with buffers of rank k, in a mode.
+#[derive(Clone, Copy)]
+struct Wanted<'a> {
+    mode: moves::Mode,
+    k: u8,
+    old: &'a [u8],
+    new: &'a [u8],
+}
+
+impl From<pair::Refusal> for NoPlan {
+    ghost from_gives = { λ refusal why. why ≡ Pair refusal };
+
+    fn from(refusal: pair::Refusal) -> NoPlan {
+        NoPlan::Pair(refusal)
+    }
+}
+
+impl From<reached::Full> for NoPlan {
+    ghost from_gives = { λ _ why. why ≡ Capacity };
+
+    fn from(_full: reached::Full) -> NoPlan {
+        NoPlan::Capacity
+    }
+}
+
 // A refusal before situations are counted, or for their number: the counts are 0 0 0.
 pub fn refusal(number: u8, sheet: u8, state: u8, offset: u16) -> Answer
     ensures { answer_of result ≡ refusing number sheet state offset }
 {
     Answer {
-        number: number,
-        sheet: sheet,
-        state: state,
-        offset: offset,
+        number,
+        sheet,
+        state,
+        offset,
         situations: 0,
         states: 0,
         rounds: 0,
@@ -47,19 +98,52 @@ pub fn refusal(number: u8, sheet: u8, state: u8, offset: u16) -> Answer
 }
 
 // An answer with its counts.
-fn with_counts(number: u8, situations: usize, states: u16, rounds: u16, length: u32) -> Answer
-    requires { situations ≤ 4096 }
+fn with_counts(number: u8, situations: u16, states: u16, rounds: u16, length: u32) -> Answer
     ensures { answer_of result ≡ counting number situations states rounds length }
 {
     Answer {
-        number: number,
+        number,
         sheet: 0,
         state: 0,
         offset: 0,
-        situations: situations as u16,
-        states: states,
-        rounds: rounds,
-        length: length,
+        situations,
+        states,
+        rounds,
+        length,
+    }
+}
+
+impl From<Accepted> for Answer {
+    ghost from_gives = { λ accepted answer. answer_of answer ≡ answer_with accepted };
+
+    fn from(accepted: Accepted) -> Answer {
+        with_counts(
+            0,
+            accepted.situations,
+            accepted.states,
+            accepted.rounds,
+            accepted.length,
+        )
+    }
+}
+
+impl From<NoPlan> for Answer {
+    ghost from_gives = { λ why answer. answer_of answer ≡ answer_for why };
+
+    fn from(why: NoPlan) -> Answer {
+        match why {
+            NoPlan::Pair(pair) => {
+                refusal(pair.number(), pair.sheet(), pair.state(), pair.offset())
+            }
+            NoPlan::Rank => refusal(10, 0, 0, 0),
+            NoPlan::Capacity => refusal(11, 0, 0, 0),
+            NoPlan::NoAdapter { situations, rounds } => with_counts(12, situations, 0, rounds, 0),
+            NoPlan::Room {
+                situations,
+                states,
+                rounds,
+            } => with_counts(13, situations, states, rounds, 0),
+        }
     }
 }
 
@@ -67,113 +151,90 @@ fn with_counts(number: u8, situations: usize, states: u16, rounds: u16, length: 
 pub fn limit_of(records: usize) -> usize
     ensures { result ≡ limit_of records }
 {
-    if records < keys::MOST {
-        return records;
-    }
-    keys::MOST
+    records.min(keys::MOST)
 }
 
-// A number of situations as a place in the table.
-fn wide(count: u16) -> usize
-    ensures { result ≡ count }
-{
-    count as usize
-}
-
-// Whether a plan of this length goes into so much room.
-fn fits(length: u32, room: usize) -> bool
-    ensures { result ≡ leb length room }
-{
-    length as usize <= room
-}
-
-// The refusal of the sheets, of the pair or of k, if there is one; else an answer with the number 0.
-fn checked(k: u8, old: &[u8], new: &[u8]) -> Answer
-    ensures admits { Admits k old.now new.now result }
-{
-    match pair::check_pair(0, 0, old, new) {
-        Pair::Refused(number, sheet, state, offset) => refusal(number, sheet, state, offset),
-        Pair::Good => {
-            if 3 < k {
-                return refusal(10, 0, 0, 0);
-            }
-            refusal(0, 0, 0, 0)
+impl Wanted<'_> {
+    // The refusal of the sheets, of the pair or of k, if there is one.
+    fn checked(&self) -> Result<(), NoPlan>
+        ensures admits { Admits self.now.k self.now.old.now self.now.new.now result }
+    {
+        pair::check_pair(0, 0, self.old, self.new)?;
+        if 3 < self.k {
+            return Err(NoPlan::Rank);
         }
+        Ok(())
     }
-}
 
-// 13, or the plan written and accepted: `count` situations with their links and the masks of their kept moves, those that stay
-// unmarked, the first among them.
-fn emit(
-    k: u8,
-    old: &[u8],
-    work: &mut [table::Record],
-    plan: &mut [u8],
-    count: usize,
-    rounds: u16,
-) -> Answer
-    requires old_sheet { IsSheet old.now }
-    requires unnumbered { UnnumberedTable count work.old }
-    ensures written { Writes
-        (emitted_from k old.now count rounds work.old (length plan.old)) result
-        plan.old plan.new }
-{
-    let states = numbering::number_states(work, count);
-    let length = numbering::plan_length(work, count, states);
-    if fits(length, plan.len()) {
-        let n = sheet::name_count(old);
-        numbering::write_plan(work, count, states, n, k, plan);
-        return with_counts(0, count, states, rounds, length);
+    // The plan written and accepted, if there is room for it: `count` situations with their links and the masks of their kept moves, those
+    // that stay unmarked, the first among them.
+    fn emit(
+        &self,
+        work: &mut [table::Record],
+        plan: &mut [u8],
+        count: usize,
+        rounds: u16,
+    ) -> Result<Accepted, NoPlan>
+        requires old_sheet { IsSheet self.now.old.now }
+        requires unnumbered { UnnumberedTable count work.old }
+        ensures written { Writes (emitted_by self.now count rounds work.old (length plan.old)) result plan.old plan.new }
+    {
+        let situations = count as u16;
+        let states = numbering::number_states(work, count);
+        let length = numbering::plan_length(work, count, states);
+        if plan.len() < length as usize {
+            return Err(NoPlan::Room {
+                situations,
+                states,
+                rounds,
+            });
+        }
+        let n = sheet::name_count(self.old);
+        numbering::write_plan(work, count, states, n, self.k, plan);
+        Ok(Accepted {
+            situations,
+            states,
+            rounds,
+            length,
+        })
     }
-    with_counts(13, count, states, rounds, 0)
-}
 
-// 12, or what follows: the rounds, for `count` situations as the search leaves them.
-fn relate(
-    mode: moves::Mode,
-    k: u8,
-    old: &[u8],
-    new: &[u8],
-    work: &mut [table::Record],
-    plan: &mut [u8],
-    count: usize,
-) -> Answer
-    requires searched { SearchedTable old.now new.now count work.old }
-    requires some_situation { 0 < count }
-    ensures written { Writes
-        (related_from mode k old.now new.now count work.old (length plan.old)) result
-        plan.old plan.new }
-{
-    let rounds = rounds::sift(mode, old, new, work, count);
-    let begin = table::load(work, 0);
-    if begin.mark != 0 {
-        return with_counts(12, count, 0, rounds, 0);
+    // What follows the search: the rounds, for `count` situations as the search leaves them, and the plan, unless the start is removed.
+    fn relate(
+        &self,
+        work: &mut [table::Record],
+        plan: &mut [u8],
+        count: usize,
+    ) -> Result<Accepted, NoPlan>
+        requires searched { SearchedTable self.now.old.now self.now.new.now count work.old }
+        requires some_situation { 0 < count }
+        ensures written { Writes (related_by self.now count work.old (length plan.old)) result plan.old plan.new }
+    {
+        let rounds = rounds::sift(self.mode, self.old, self.new, work, count);
+        if table::load(work, 0).mark != 0 {
+            return Err(NoPlan::NoAdapter {
+                situations: count as u16,
+                rounds,
+            });
+        }
+        self.emit(work, plan, count, rounds)
     }
-    emit(k, old, work, plan, count, rounds)
-}
 
-// 11, or what follows: two service sheets over the same names, and k at most 3.
-fn connect_checked(
-    mode: moves::Mode,
-    k: u8,
-    old: &[u8],
-    new: &[u8],
-    work: &mut [table::Record],
-    plan: &mut [u8],
-) -> Answer
-    requires old_sheet { IsSheet old.now }
-    requires new_sheet { IsSheet new.now }
-    requires rank { k ≤ 3 }
-    ensures written { Writes
-        (connected_from mode k old.now new.now (length work.old) (length plan.old)) result
-        plan.old plan.new }
-{
-    let limit = limit_of(work.len());
-    let count = reached::explore(old, new, k, limit, work);
-    if count == 0 {
-        return refusal(11, 0, 0, 0);
+    // What follows for two service sheets over the same names, and k at most 3: the search, and the rest if its situations are few enough.
+    fn connect_checked(
+        &self,
+        work: &mut [table::Record],
+        plan: &mut [u8],
+    ) -> Result<Accepted, NoPlan>
+        requires old_sheet { IsSheet self.now.old.now }
+        requires new_sheet { IsSheet self.now.new.now }
+        requires rank { self.now.k ≤ 3 }
+        ensures written { Writes (connected_by self.now (length work.old) (length plan.old)) result plan.old plan.new }
+    {
+        let limit = limit_of(work.len());
+        let count = reached::explore(self.old, self.new, self.k, limit, work)?;
+        self.relate(work, plan, usize::from(count))
     }
-    relate(mode, k, old, new, work, plan, wide(count))
 }
 
 // Connects the contracts of two sheets with buffers of rank k, in a mode.
@@ -188,20 +249,16 @@ pub fn connect_mode(
     ensures outcome { record { answer = answer_of result; plan = plan.new; work = work.new }
         ≡ connect_of blank (mode_of mode) k old.now new.now work.old plan.old }
 {
-    let first = checked(k, old, new);
-    if first.number != 0 {
-        return first;
+    let wanted = Wanted { mode, k, old, new };
+    if let Err(why) = wanted.checked() {
+        return Answer::from(why);
     }
-    let answer = connect_checked(mode, k, old, new, work, plan);
+    let found = wanted.connect_checked(work, plan);
     table::clear(work);
-    answer
-}
-
-// The mode where none is named.
-fn unnamed() -> moves::Mode
-    ensures { mode_of result ≡ paper }
-{
-    moves::Mode::Paper
+    match found {
+        Ok(accepted) => Answer::from(accepted),
+        Err(why) => Answer::from(why),
+    }
 }
 
 // The same without a mode: the paper's.
@@ -209,5 +266,5 @@ pub fn connect(k: u8, old: &[u8], new: &[u8], work: &mut [table::Record], plan: 
     ensures outcome { record { answer = answer_of result; plan = plan.new; work = work.new }
         ≡ connect_of blank paper k old.now new.now work.old plan.old }
 {
-    connect_mode(unnamed(), k, old, new, work, plan)
+    connect_mode(moves::Mode::Paper, k, old, new, work, plan)
 }

@@ -4,11 +4,22 @@
 use Rattle.connect.proofs.Outcomes.{connect-refused, connect-done}
 use Rattle.connect.proofs.connect_mode.Goals as goal
 
-pub returns-then-first-ne0 : goal.returns-then-first-ne0
-returns-then-first-ne0 c = record { outcome = connect-refused c.args.mode c.args.k c.args.old.now c.args.new.now c.args.work.now c.args.plan.now c.checked-first.ensures.admits c.if-first-ne0.true }
+pub returns-in-Err : goal.returns-in-Err
+returns-in-Err c = record {
+  outcome = connect-refused c.args.mode c.args.k c.args.old.now c.args.new.now c.args.work.now c.args.plan.now c.from.result
+      c.in-Err.ensures.admits c.from.ensures;
+}
 
-pub connect_checked-answer-requires : goal.connect_checked-answer-requires
-connect_checked-answer-requires c = record { old_sheet = c.checked-first.ensures.admits.old_sheet c.if-first-ne0.false; new_sheet = c.checked-first.ensures.admits.new_sheet c.if-first-ne0.false; rank = c.checked-first.ensures.admits.rank c.if-first-ne0.false }
+pub returns-in-Ok : goal.returns-in-Ok
+returns-in-Ok c = record {
+  outcome = connect-done c.args.mode c.args.k c.args.old.now c.args.new.now c.args.work.now c.args.plan.now c.from-in-Ok.result
+      c.connect_checked-found.new.work c.in_default.ensures.admits c.in-Ok.ensures.written c.connect_checked-found.auto.work c.clear.ensures
+      c.from-in-Ok.ensures;
+}
 
-pub returns : goal.returns
-returns c = record { outcome = connect-done c.args.mode c.args.k c.args.old.now c.args.new.now c.args.work.now c.args.plan.now c.connect_checked-answer.new.work c.checked-first.ensures.admits c.if-first-ne0.false c.connect_checked-answer.ensures.written c.connect_checked-answer.auto.work c.clear.ensures }
+pub returns-in-Err-found : goal.returns-in-Err-found
+returns-in-Err-found c = record {
+  outcome = connect-done c.args.mode c.args.k c.args.old.now c.args.new.now c.args.work.now c.args.plan.now c.from-in-Err-found.result
+      c.connect_checked-found.new.work c.in_default.ensures.admits c.in-Err-found.ensures.written c.connect_checked-found.auto.work
+      c.clear.ensures c.from-in-Err-found.ensures;
+}
