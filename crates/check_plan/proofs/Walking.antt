@@ -2,10 +2,12 @@
 -- With it the walk of an admitted plan is the answer.
 -- Assumes nothing.
 use mathlib.Core.Path.{◌≡◌, refl, sym, ap, ◌∙◌}
-use mathlib.Core.Bool.{Bool, true, false, cond}
+use mathlib.Core.Bool.{Bool, true, cond, false≢true}
 use mathlib.Core.List.{List, [], ◌∷◌}
 use mathlib.Core.Option.{Option, none, some, none-ne-some}
 use Prim.Native.Nat.{ℕ}
+use Rattle.std.specs.Prelude as declared
+use Rattle.std.specs.Prelude.{None, Some, Result, Ok, Err, is_ok}
 use native.Mathlib.Omega.{arith}
 use lib.ListN.{length}
 use lib.Dec.{T, eqb}
@@ -30,9 +32,13 @@ use Rattle.edits.specs.Check.{walk_number, walked, PlanFault, no_fault, fault_at
 use Rattle.edits.specs.Promises.{rank_of}
 use Rattle.edits.proofs.First.{none-fails, all_pass, first-fails}
 use Rattle.edits.proofs.Sound.{blame-none}
-use Rattle.edits_walk.specs.Faults.{fault_by, blame_by}
-use Rattle.edits_walk.specs.Walk.{none_left, Walkable, Walked}
-use Rattle.edits_walk.specs.declared.Walk.{Walk}
+use Rattle.reached.specs.declared.Full.{Full}
+use Rattle.edits_rows.specs.Rows.{blame_by}
+use Rattle.edits_rows.specs.declared.Breach.{Breach}
+use Rattle.edits_rows.specs.declared.Breach.TheVariants.{Outside, Unmet, Unanswered, Undelivered}
+use Rattle.edits_walk.specs.Faults.{unsound_by, fault_found}
+use Rattle.edits_walk.specs.Walk.{none_left, fault_in, Walkable, Walked}
+use Rattle.edits_walk.specs.declared.Unsound.{Unsound}
 use Rattle.check_plan.specs.Answers.{number_of_walk, AdmittedPlan, WalksPlan}
 
 -- ---- the number
@@ -40,6 +46,18 @@ use Rattle.check_plan.specs.Answers.{number_of_walk, AdmittedPlan, WalksPlan}
 -- what a whole walk with such a fault comes to
 abbrev judged : PlanFault → ℕ
 judged f = cond (eqb f.blame.condition 0) 0 21
+
+-- an unsound pair has a condition that is broken
+number-found : (found : declared.Option Unsound) → number_of_walk (Ok found) ≡ judged (fault_found found)
+unfolding fault_found unsound_by no_fault
+number-found None = refl
+number-found (Some unsound) = go unsound.breach
+  where
+    go : (b : Breach) → ◌≡◌ {A = ℕ} 21 (cond (eqb (blame_by b).condition 0) 0 21)
+    go (Outside code) = refl
+    go (Unmet code) = refl
+    go (Unanswered S) = refl
+    go (Undelivered S) = refl
 
 module _ (mode : model.Mode) (limits : List ℕ) (old new : Contract) (rows : List (List Move)) (limit : ℕ) where
   abbrev search : Search Place
@@ -65,25 +83,25 @@ module _ (mode : model.Mode) (limits : List ℕ) (old new : Contract) (rows : Li
           rw (ne_eqb (blame_in mode limits old new rows x).condition 0 (λ z. w.fails (unblamed x z)))
           (sym (cond_no (all sound search.done) 0 21 (λ t. none-ne-some x (sym (all_pass sound search.done t) ∙ e))))
 
-  pub number-walked : (r : Walk) → r.whole ≡ none_left search.todo → fault_by r.fault ≡ fault_walked mode limits old new rows limit
+  pub number-walked : (r : Result (declared.Option Unsound) Full) → is_ok r ≡ none_left search.todo
+      → fault_in r ≡ fault_walked mode limits old new rows limit
       → number_of_walk r ≡ walked mode limits old new rows limit
-  unfolding number_of_walk walked walk_number none_left fault_walked fault_among fault_by blame_by
-  number-walked r whole fault = go search.todo whole fault
+  unfolding walked walk_number none_left fault_walked fault_among
+  number-walked r whole fault = go search.todo r whole fault
     where
-      go : (l : List Place) → r.whole ≡ none_left l → fault_by r.fault ≡ fault_among mode limits old new rows search.done l
+      go : (l : List Place) (r : Result (declared.Option Unsound) Full) → is_ok r ≡ none_left l → fault_in r ≡ fault_among mode limits old new rows search.done l
           → number_of_walk r ≡ walk_number mode limits old new rows search.done l
-      go [] whole fault = rw whole (ap judged fault ∙ judged-first)
-      go (x ∷ l) whole fault = rw whole refl
+      go [] (Ok found) whole fault = number-found found ∙ ap judged fault ∙ judged-first
+      go [] (Err full) whole fault = absurd (false≢true whole)
+      go (x ∷ l) (Ok found) whole fault = absurd (false≢true (sym whole))
+      go (x ∷ l) (Err full) whole fault = refl
 
 -- it is given after pairs were counted
-number-after : (w : Walk) → after_pairs (number_of_walk w) ≡ true
-unfolding after_pairs number_of_walk
-number-after w = go w.whole (eqb w.fault.blame.condition 0)
-  where
-    go : (b c : Bool) → after_pairs (cond b (cond c 0 21) 11) ≡ true
-    go true true = refl
-    go true false = refl
-    go false c = refl
+number-after : (r : Result (declared.Option Unsound) Full) → after_pairs (number_of_walk r) ≡ true
+unfolding after_pairs
+number-after (Ok None) = refl
+number-after (Ok (Some unsound)) = refl
+number-after (Err full) = refl
 
 -- ---- an admitted plan
 
@@ -99,10 +117,10 @@ module _ (old new plan : List ℕ) (admitted : AdmittedPlan old new plan) where
   unfolding is_some
   plan-read = rw admitted.is_plan refl
 
-  module _ (k : ℕ) (k-is : k ≡ rank_of (read_plan plan)) (limit : ℕ) (work : List Record) (limit_is : limit ≡ limit_of (length work)) where
+  module _ {n k : ℕ} (reads : read_plan plan ≡ some (record { n = n; k = k; rows = rows_in plan })) (limit : ℕ) (work : List Record) (limit_is : limit ≡ limit_of (length work)) where
     rank_is : admitted.rank ≡ k
     unfolding rank_of
-    rank_is = sym (k-is ∙ ap rank_of admitted.is_plan)
+    rank_is = ap rank_of (sym admitted.is_plan ∙ reads)
 
     pub walk-needs : Walkable old new plan k limit work
     unfolding limit_of
@@ -116,7 +134,7 @@ module _ (old new plan : List ℕ) (admitted : AdmittedPlan old new plan) where
           room = omega arith;
         }
 
-    pub walk-answers : (mode : Mode) (r : Walk) (between work' : List Record) → Walked mode old new plan k limit r work between
+    pub walk-answers : (mode : Mode) (r : Result (declared.Option Unsound) Full) (between work' : List Record) → Walked mode old new plan k limit r work between
         → work' ≡ cleared between → WalksPlan mode old new plan r work work'
     walk-answers mode r between work' w is-cleared =
         let σ = contract_in old in
@@ -126,7 +144,7 @@ module _ (old new plan : List ℕ) (admitted : AdmittedPlan old new plan) where
         let number : walked (mode_of mode) (alike admitted.rank) σ τ rows most ≡ number_of_walk r =
         (λ i. walked (mode_of mode) (alike (rank_is i)) σ τ rows (sym limit_is i))
         ∙ sym (number-walked (mode_of mode) (alike k) σ τ rows limit r w.whole w.fault) in
-        let fault : fault_walked (mode_of mode) (alike admitted.rank) σ τ rows most ≡ fault_by r.fault =
+        let fault : fault_walked (mode_of mode) (alike admitted.rank) σ τ rows most ≡ fault_in r =
         (λ i. fault_walked (mode_of mode) (alike (rank_is i)) σ τ rows (sym limit_is i)) ∙ sym w.fault in
         record {
           number = admitted.number (mode_of mode) most ∙ ap (λ (n : ℕ). plain n 0) number;

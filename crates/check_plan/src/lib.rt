@@ -2,76 +2,68 @@
 // requests 3/13 and 5/13.
 #![tactic(auto)]
 
-ghost use Rattle.std.specs.Prelude.{◌≡◌, true};
-ghost use Rattle.model.specs.Plan.{read_plan};
-ghost use Rattle.sheet.specs.Whole.{IsSheet};
+ghost use Rattle.std.specs.Prelude.{◌≡◌};
 ghost use Rattle.moves.specs.Modes.{mode_of};
-ghost use Rattle.plan.specs.Layout.{is_some};
 ghost use Rattle.table.specs.Records.{blank};
 ghost use Rattle.connect.specs.Answers.{answer_of};
 ghost use Rattle.edits.specs.Check.{check_plan_of, plan_fault_of};
-ghost use Rattle.edits.specs.Promises.{rank_of};
 ghost use Rattle.edits_walk.specs.Faults.{fault_by};
-ghost use Rattle.check_plan.specs.Answers.{number_before, number_of_walk, AdmittedPlan, AdmitsPlan, WalksPlan};
+ghost use Rattle.check_plan.specs.declared.Refusal.TheVariants.{Pair};
+ghost use Rattle.check_plan.specs.Answers.{answer_for, answer_in, fault_in, AdmittedPlan, AdmitsPlan, WalksPlan};
 
-use pair::Pair;
+use edits_walk::{Fault, Unsound};
+use reached::Full;
 
-// 14 or 9 for a plan beside a sheet, 0 for a plan over the sheet's names.
-fn number_before(old: &[u8], plan: &[u8]) -> u8
-    requires { IsSheet old.now }
-    ensures { result ≡ number_before old.now plan.now }
-{
-    if plan::read::is_plan(plan) {
-        let figures = plan::figures_of(plan);
-        if figures.n == sheet::name_count(old) {
-            return 0;
-        }
-        return 9;
-    }
-    14
+// Why a plan does not hold: the two sheets cannot be used together; it is no plan; it is over other names; its rows reach more pairs than
+// there are records, or than 4,096; a pair is unsound.
+#[derive(Clone, Copy)]
+enum Refusal {
+    Pair(pair::Refusal),
+    NoPlan,
+    Names,
+    Capacity,
+    Unsound(Unsound),
 }
 
-// The refusal of the sheets, of the plan or of its names, if there is one; else an answer with the number 0.
-fn admitted(old: &[u8], new: &[u8], plan: &[u8]) -> connect::Answer
+impl From<pair::Refusal> for Refusal {
+    ghost from_gives = { λ refusal why. why ≡ Pair refusal };
+
+    fn from(refusal: pair::Refusal) -> Refusal {
+        Refusal::Pair(refusal)
+    }
+}
+
+impl From<Refusal> for connect::Answer {
+    ghost from_gives = { λ why answer. answer_of answer ≡ answer_for why };
+
+    fn from(why: Refusal) -> connect::Answer {
+        match why {
+            Refusal::Pair(pair) => connect::refusal(
+                pair.number(),
+                pair.sheet(),
+                pair.state(),
+                pair.offset(),
+            ),
+            Refusal::NoPlan => connect::refusal(14, 0, 0, 0),
+            Refusal::Names => connect::refusal(9, 0, 0, 0),
+            Refusal::Capacity => connect::refusal(11, 0, 0, 0),
+            Refusal::Unsound(_) => connect::refusal(21, 0, 0, 0),
+        }
+    }
+}
+
+// Whether the pairs of a plan can be walked: two sheets that can be used together, and a plan over their names.
+fn admitted(old: &[u8], new: &[u8], plan: &[u8]) -> Result<(), Refusal>
     ensures admits { AdmitsPlan old.now new.now plan.now result }
 {
-    match pair::check_pair(0, 0, old, new) {
-        Pair::Refused(number, sheet, state, offset) => connect::refusal(
-            number, sheet, state, offset,
-        ),
-        Pair::Good => connect::refusal(number_before(old, plan), 0, 0, 0),
+    pair::check_pair(0, 0, old, new)?;
+    if !plan::read::is_plan(plan) {
+        return Err(Refusal::NoPlan);
     }
-}
-
-// The number that a walk comes to: 11, 21 or 0.
-fn number_of(walk: edits_walk::Walk) -> u8
-    ensures { result ≡ number_of_walk walk }
-{
-    if walk.whole {
-        let fault = walk.fault;
-        let blame = fault.blame;
-        if blame.condition == 0 {
-            return 0;
-        }
-        return 21;
+    if plan::figures_of(plan).n != sheet::name_count(old) {
+        return Err(Refusal::Names);
     }
-    11
-}
-
-// What a walk finds at fault.
-fn fault_of(walk: edits_walk::Walk) -> edits_walk::Fault
-    ensures { result ≡ walk.fault }
-{
-    walk.fault
-}
-
-// The rank that a plan is over: its own k.
-fn rank_of(plan: &[u8]) -> u8
-    requires { is_some (read_plan plan.now) ≡ true }
-    ensures { result ≡ rank_of (read_plan plan.now) }
-{
-    let figures = plan::figures_of(plan);
-    figures.k
+    Ok(())
 }
 
 // The walk of the pairs that the rows of an admitted plan reach, after which each record is zero.
@@ -81,16 +73,36 @@ fn walk_admitted(
     new: &[u8],
     plan: &[u8],
     work: &mut [table::Record],
-) -> edits_walk::Walk
+) -> Result<Option<Unsound>, Full>
     requires admitted { AdmittedPlan old.now new.now plan.now }
-    ensures walks { WalksPlan mode old.now new.now plan.now result
-        work.old work.new }
+    ensures walks { WalksPlan mode old.now new.now plan.now result work.old work.new }
 {
-    let k = rank_of(plan);
+    let k = plan::figures_of(plan).k;
     let limit = connect::limit_of(work.len());
     let walk = edits_walk::walk_pairs(mode, old, new, plan, k, limit, work);
     table::clear(work);
     walk
+}
+
+// Whether a plan still holds for two service sheets in a mode, or the first refusal of 1 to 9, 14, 9 again, 11 and 21.
+fn checked(
+    mode: moves::Mode,
+    old: &[u8],
+    new: &[u8],
+    plan: &[u8],
+    work: &mut [table::Record],
+) -> Result<(), Refusal>
+    ensures told { record { answer = answer_in result; work = work.new }
+        ≡ check_plan_of blank (mode_of mode) old.now new.now plan.now work.old }
+    ensures blamed { record { fault = fault_in result; work = work.new }
+        ≡ plan_fault_of blank (mode_of mode) old.now new.now plan.now work.old }
+{
+    admitted(old, new, plan)?;
+    match walk_admitted(mode, old, new, plan, work) {
+        Ok(None) => Ok(()),
+        Ok(Some(unsound)) => Err(Refusal::Unsound(unsound)),
+        Err(Full) => Err(Refusal::Capacity),
+    }
 }
 
 // Whether a plan still holds for two service sheets in a mode: number 0, or the first refusal of 1 to 9, 14, 9 again, 11 and 21.
@@ -104,12 +116,10 @@ pub fn check_plan(
     ensures outcome { record { answer = answer_of result; work = work.new }
         ≡ check_plan_of blank (mode_of mode) old.now new.now plan.now work.old }
 {
-    let first = admitted(old, new, plan);
-    if first.number != 0 {
-        return first;
+    match checked(mode, old, new, plan, work) {
+        Ok(()) => connect::refusal(0, 0, 0, 0),
+        Err(why) => why.into(),
     }
-    let walk = walk_admitted(mode, old, new, plan, work);
-    connect::refusal(number_of(walk), 0, 0, 0)
 }
 
 // What is at fault where the same check answers 21; all zero for every other answer.
@@ -119,14 +129,12 @@ pub fn plan_fault(
     new: &[u8],
     plan: &[u8],
     work: &mut [table::Record],
-) -> edits_walk::Fault
+) -> Fault
     ensures outcome { record { fault = fault_by result; work = work.new }
         ≡ plan_fault_of blank (mode_of mode) old.now new.now plan.now work.old }
 {
-    let first = admitted(old, new, plan);
-    if first.number != 0 {
-        return edits_walk::no_fault();
+    match checked(mode, old, new, plan, work) {
+        Err(Refusal::Unsound(unsound)) => unsound.into(),
+        _ => edits_walk::no_fault(),
     }
-    let walk = walk_admitted(mode, old, new, plan, work);
-    fault_of(walk)
 }

@@ -1,6 +1,8 @@
 -- A row of a plan in a situation, as the code looks at it: by the counts of the buffer, by masks of offered actions, by masks of its moves.
 -- Assumes nothing.
-use Rattle.std.specs.Prelude.{◌≡◌, Bool, true, not, ◌||◌, ℕ, ◌+◌, ◌*◌, ◌≤◌, length, T, eqb}
+use Rattle.std.specs.Prelude.{◌≡◌, Bool, true, not, ◌||◌, ℕ, ◌+◌, ◌*◌, ◌≤◌, length, T, eqb, Option, None, Some, Result, Ok, Err}
+use Rattle.std.proofs.Math.Option as model
+use Rattle.std.proofs.Math.Option.{none, some}
 use mathlib.Core.List.{List, Memᴰ}
 use Rattle.model.specs.Contract.{has}
 use Rattle.model.specs.Situation.{Kind, straight, client, service, stray, kind_of, codes, buffer_after}
@@ -15,10 +17,33 @@ use Rattle.plan.specs.declared.Row.{Row}
 use Rattle.edits.specs.Sound as edits
 use Rattle.edits.specs.Sound.{given}
 use Rattle.edits_rows.specs.declared.Blame.{Blame}
+use Rattle.edits_rows.specs.declared.Breach.{Breach}
+use Rattle.edits_rows.specs.declared.Breach.TheVariants.{Outside, Unmet, Unanswered, Undelivered}
 
 -- what is at fault, as the struct that the code returns
-unfoldable pub blame_from : edits.Blame → Blame
+abbrev pub blame_from : edits.Blame → Blame
 blame_from b = record { condition = b.condition; code = b.code; ready = b.ready }
+
+-- what a breach says: the condition, counted from 1, and the code or the ready set that breaks it
+abbrev pub blame_by : Breach → edits.Blame
+blame_by (Outside code) = record { condition = 1; code = code; ready = 0 }
+blame_by (Unmet code) = record { condition = 2; code = code; ready = 0 }
+blame_by (Unanswered S) = record { condition = 3; code = 0; ready = S }
+blame_by (Undelivered S) = record { condition = 4; code = 0; ready = S }
+
+-- what a judgement says
+abbrev pub judged : Result (Unit {0}) Breach → edits.Blame
+judged (Ok x) = record { condition = 0; code = 0; ready = 0 }
+judged (Err breach) = blame_by breach
+
+-- an element that was found, as the code returns it
+abbrev pub found_of : model.Option ℕ → Option ℕ
+found_of none = None
+found_of (some x) = Some x
+
+-- what a test may answer is what a function says
+abbrev pub Tells : (ℕ → Bool → Type 0) → (ℕ → Bool) → Type 0
+Tells answers says = (x : ℕ) (r : Bool) → answers x r → r ≡ says x
 
 -- a move keeps the buffer with these counts within the limits
 unfoldable pub keeps_counts : (limits counts : List ℕ) → ℕ → Bool

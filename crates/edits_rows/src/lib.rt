@@ -1,13 +1,13 @@
 // A row of a plan in a situation: which condition of the check it breaks first, told the mode, and by which code or ready set.
 #![tactic(auto)]
 
-ghost use Rattle.std.specs.Prelude.{◌≡◌, ◌+◌, ◌*◌, ◌^◌, ◌≤◌, ◌<◌, length, get_or};
+ghost use Rattle.std.specs.Prelude.{◌≡◌, ℕ, Bool, ◌+◌, ◌*◌, ◌^◌, ◌≤◌, ◌<◌, length, get_or};
 ghost use mathlib.Core.List.{Memᴰ};
 ghost use Rattle.std.proofs.Math.Option.{none};
 ghost use Rattle.model.specs.Contract.{state};
 ghost use Rattle.model.specs.Sheet.{contract_in};
 ghost use Rattle.model.specs.Situation.{alike, kind_of, codes};
-ghost use Rattle.model.specs.Test.{answered, hope, asked, delivered};
+ghost use Rattle.model.specs.Test.{asked, delivered};
 ghost use Rattle.model.specs.Plan.{read_moves};
 ghost use Rattle.sheet.specs.Whole.{IsState};
 ghost use Rattle.moves.specs.Present.{codes_of};
@@ -15,10 +15,20 @@ ghost use Rattle.moves.specs.Modes.{mode_of};
 ghost use Rattle.moves.specs.Situations.{situation_of, Placed};
 ghost use Rattle.edits.specs.Places.{codes_in};
 ghost use Rattle.edits.specs.Sound.{first_not, blamed, blame_of};
-ghost use Rattle.edits_rows.specs.Rows.{InRow, keeps_counts, met_by, blame_from, WithCode, Judgeable};
+ghost use Rattle.edits_rows.specs.Rows.{InRow, met_by, blame_from, blame_by, judged, found_of, Tells, WithCode, Judgeable};
 
-// Which condition fails, counted from 1, and 0 if none does; the code of the first move that breaks one of the first two; the first ready
-// set of the new state that breaks one of the others, the two parts of the test.
+// Which condition a row breaks first, and by what: a move of the row that does not keep the buffer within its limits; one that the new state
+// can meet and the old one cannot; a ready set of the new state that is not answered; one that has not what the second part of the test asks.
+#[derive(Clone, Copy, Debug, PartialEq, Eq)]
+pub enum Breach {
+    Outside(u8),
+    Unmet(u8),
+    Unanswered(u16),
+    Undelivered(u16),
+}
+
+// A breach for C: which condition fails, counted from 1, and 0 if none does; the code of the move that breaks one of the first two; the ready
+// set that breaks one of the others.
 #[repr(C)]
 #[derive(Clone, Copy)]
 pub struct Blame {
@@ -38,6 +48,24 @@ pub fn nothing() -> Blame
     }
 }
 
+impl From<Breach> for Blame {
+    ghost from_gives = { λ breach blame. blame ≡ blame_from (blame_by breach) };
+
+    fn from(breach: Breach) -> Blame {
+        let (condition, code, ready) = match breach {
+            Breach::Outside(code) => (1, code, 0),
+            Breach::Unmet(code) => (2, code, 0),
+            Breach::Unanswered(set) => (3, 0, set),
+            Breach::Undelivered(set) => (4, 0, set),
+        };
+        Blame {
+            condition,
+            code,
+            ready,
+        }
+    }
+}
+
 // The code of the i-th move of a row.
 fn code_at(plan: &[u8], row: plan::Row, i: usize) -> u8
     requires { (row.first + 3 * row.size ≤ length plan.now) × (i < row.size) }
@@ -46,26 +74,36 @@ fn code_at(plan: &[u8], row: plan::Row, i: usize) -> u8
     plan[row.first + 3 * i]
 }
 
-// The first move of a row that does not keep the buffer within its limits.
-fn outside(plan: &[u8], row: plan::Row, buffer: moves::Buffer, k: u8) -> Blame
-    requires { row.first + 3 * row.size ≤ length plan.now }
-    ensures { result ≡ blame_from (blamed (first_not (keeps_counts (alike k) buffer.counts)
-        (codes_in (read_moves plan.now row.first row.size))) none none none) }
+// The first code of a row that fails a test.
+fn first_code_not<F: Fn(u8) -> bool>(plan: &[u8], row: plan::Row, test: F) -> Option<u8>
+    requires row { row.first + 3 * row.size ≤ length plan.now }
+    requires callable { F.IsAlwaysCallable test }
+    ensures { (passes : ℕ → Bool) → Tells (F.post test) passes
+        → result ≡ found_of (first_not passes (codes_in (read_moves plan.now row.first row.size))) }
 {
-    let mut i = 0;
-    while i < row.size {
+    for i in 0..row.size {
         let code = code_at(plan, row, i);
-        let moved = buffer.after(code, k);
-        if !moved.ok {
-            return Blame {
-                condition: 1,
-                code: code,
-                ready: 0,
-            };
+        if !test(code) {
+            return Some(code);
         }
-        i += 1;
     }
-    nothing()
+    None
+}
+
+// The first ready set of state q that fails a test.
+fn first_ready_not<F: Fn(u16) -> bool>(b: &[u8], q: u8, test: F) -> Option<u16>
+    requires state { IsState b.now q }
+    requires callable { F.IsAlwaysCallable test }
+    ensures { (passes : ℕ → Bool) → Tells (F.post test) passes
+        → result ≡ found_of (first_not passes (state (contract_in b.now) q).ready) }
+{
+    for i in 0..sheet::ready_count(b, q) {
+        let set = sheet::ready_set(b, q, i);
+        if !test(set) {
+            return Some(set);
+        }
+    }
+    None
 }
 
 // Whether the old state can meet the move with a code if the new one can, by the actions that they offer.
@@ -82,27 +120,6 @@ fn met(code: u8, old: u16, new: u16) -> bool
         16..=29 => sheet::has_bit(old, code - 16),
         _ => true,
     }
-}
-
-// The first move of a row that the new state can meet and the old one cannot.
-fn unmet(plan: &[u8], row: plan::Row, old: u16, new: u16) -> Blame
-    requires { row.first + 3 * row.size ≤ length plan.now }
-    ensures { result ≡ blame_from (blamed none (first_not (λ code. met_by old new (kind_of code))
-        (codes_in (read_moves plan.now row.first row.size))) none none) }
-{
-    let mut i = 0;
-    while i < row.size {
-        let code = code_at(plan, row, i);
-        if !met(code, old, new) {
-            return Blame {
-                condition: 2,
-                code: code,
-                ready: 0,
-            };
-        }
-        i += 1;
-    }
-    nothing()
 }
 
 // The bit of an action.
@@ -141,57 +158,10 @@ fn present_in(plan: &[u8], row: plan::Row) -> moves::Present
         client: 0,
         service: 0,
     };
-    let mut i = 0;
-    while i < row.size {
+    for i in 0..row.size {
         present = with_code(present, code_at(plan, row, i));
-        i += 1;
     }
     present
-}
-
-// The first ready set of state q of the new contract that is not answered, the old contract being in state p.
-fn unanswered(old: &[u8], new: &[u8], p: u8, q: u8, present: moves::Present) -> Blame
-    requires { IsState old.now p × IsState new.now q }
-    ensures { result ≡ blame_from (blamed none none (first_not
-        (answered (state (contract_in old.now) p).ready (codes_of present))
-        (state (contract_in new.now) q).ready) none) }
-{
-    let count = sheet::ready_count(new, q);
-    let mut i: u8 = 0;
-    while i < count {
-        let S = sheet::ready_set(new, q, i);
-        if !moves::answers(old, p, present, S) {
-            return Blame {
-                condition: 3,
-                code: 0,
-                ready: S,
-            };
-        }
-        i += 1;
-    }
-    nothing()
-}
-
-// The first ready set of state q of the new contract with no action that can be moved with the service alone.
-fn without_hope(new: &[u8], q: u8, present: moves::Present) -> Blame
-    requires { IsState new.now q }
-    ensures { result ≡ blame_from (blamed none none none (first_not (hope (codes_of present))
-        (state (contract_in new.now) q).ready)) }
-{
-    let count = sheet::ready_count(new, q);
-    let mut place: u8 = 0;
-    while place < count {
-        let set = sheet::ready_set(new, q, place);
-        if !present.hope(set) {
-            return Blame {
-                condition: 4,
-                code: 0,
-                ready: set,
-            };
-        }
-        place += 1;
-    }
-    nothing()
 }
 
 // The first ready set of the new state that has not what the second part of the test asks, if that is asked in the situation.
@@ -201,19 +171,19 @@ fn undelivered(
     new: &[u8],
     at: moves::Situation,
     present: moves::Present,
-) -> Blame
+) -> Option<u16>
     requires { Placed old.now new.now at }
-    ensures { result ≡ blame_from (blamed none none none (first_not
+    ensures { result ≡ found_of (first_not
         (delivered (asked (mode_of mode) (state (contract_in old.now) at.old) at.buffer.counts) (codes_of present))
-        (state (contract_in new.now) at.new).ready)) }
+        (state (contract_in new.now) at.new).ready) }
 {
-    if moves::due(mode, old, at) {
-        return without_hope(new, at.new, present);
+    if !moves::due(mode, old, at) {
+        return None;
     }
-    nothing()
+    first_ready_not(new, at.new, |set| present.hope(set))
 }
 
-// What is at fault with a row in a situation whose states offer so much.
+// Whether a row holds in a situation whose states offer so much, or what it breaks first.
 pub fn judge(
     mode: moves::Mode,
     old: &[u8],
@@ -224,23 +194,31 @@ pub fn judge(
     at: moves::Situation,
     old_offer: sheet::Offer,
     new_offer: sheet::Offer,
-) -> Blame
+) -> Result<(), Breach>
     requires { Judgeable old.now new.now plan.now row at old_offer new_offer }
-    ensures { result ≡ blame_from (blame_of (mode_of mode) (alike k) (contract_in old.now) (contract_in new.now)
-        (situation_of at) (codes_in (read_moves plan.now row.first row.size))) }
+    ensures { judged result ≡ blame_of (mode_of mode) (alike k) (contract_in old.now) (contract_in new.now)
+        (situation_of at) (codes_in (read_moves plan.now row.first row.size)) }
 {
-    let first = outside(plan, row, at.buffer, k);
-    let second = unmet(plan, row, old_offer.actions, new_offer.actions);
-    if first.condition != 0 {
-        return first;
+    if let Some(code) = first_code_not(plan, row, |code| at.buffer.after(code, k).is_some()) {
+        return Err(Breach::Outside(code));
     }
-    if second.condition != 0 {
-        return second;
+    if let Some(code) = first_code_not(
+        plan,
+        row,
+        |code| met(code, old_offer.actions, new_offer.actions),
+    ) {
+        return Err(Breach::Unmet(code));
     }
     let present = present_in(plan, row);
-    let third = unanswered(old, new, at.old, at.new, present);
-    if third.condition != 0 {
-        return third;
+    if let Some(set) = first_ready_not(
+        new,
+        at.new,
+        |set| moves::answers(old, at.old, present, set),
+    ) {
+        return Err(Breach::Unanswered(set));
     }
-    undelivered(mode, old, new, at, present)
+    if let Some(set) = undelivered(mode, old, new, at, present) {
+        return Err(Breach::Undelivered(set));
+    }
+    Ok(())
 }

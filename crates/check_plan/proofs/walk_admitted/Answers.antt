@@ -4,11 +4,20 @@
 use Rattle.check_plan.proofs.Walking.{plan-read, walk-needs, walk-answers}
 use Rattle.check_plan.proofs.walk_admitted.Goals as goal
 
-pub rank_of-k-requires : goal.rank_of-k-requires
-rank_of-k-requires c = plan-read c.args.old.now c.args.new.now c.args.plan.now c.requires.admitted
+pub figures_of-k-requires : goal.figures_of-k-requires
+figures_of-k-requires c = plan-read c.args.old.now c.args.new.now c.args.plan.now c.requires.admitted
 
 pub walk_pairs-walk-requires : goal.walk_pairs-walk-requires
-walk_pairs-walk-requires c = record { walkable = walk-needs c.args.old.now c.args.new.now c.args.plan.now c.requires.admitted c.rank_of-k.result c.rank_of-k.ensures c.limit_of-limit.result c.args.work.now c.limit_of-limit.ensures }
+walk_pairs-walk-requires c = record {
+  walkable =
+      walk-needs c.args.old.now c.args.new.now c.args.plan.now c.requires.admitted c.figures_of-k.ensures c.limit_of-limit.result
+      c.args.work.now c.limit_of-limit.ensures;
+}
 
 pub returns : goal.returns
-returns c = record { walks = walk-answers c.args.old.now c.args.new.now c.args.plan.now c.requires.admitted c.rank_of-k.result c.rank_of-k.ensures c.limit_of-limit.result c.args.work.now c.limit_of-limit.ensures c.args.mode c.walk_pairs-walk.result c.walk_pairs-walk.new.work c.clear.new.work c.walk_pairs-walk.ensures.walked c.clear.ensures }
+returns c = record {
+  walks =
+      walk-answers c.args.old.now c.args.new.now c.args.plan.now c.requires.admitted c.figures_of-k.ensures c.limit_of-limit.result
+      c.args.work.now c.limit_of-limit.ensures c.args.mode c.walk_pairs-walk.result c.walk_pairs-walk.new.work c.clear.new.work
+      c.walk_pairs-walk.ensures.walked c.clear.ensures;
+}

@@ -2,9 +2,8 @@
 -- Assumes nothing.
 use mathlib.Core.Path.{refl}
 use Rattle.edits.specs.Sound.{blamed}
-use Rattle.edits_rows.specs.Rows.{blame_from}
 use Rattle.edits_rows.proofs.nothing.Goals as goal
 
 pub returns : goal.returns
-unfolding blame_from blamed
+unfolding blamed
 returns c = refl

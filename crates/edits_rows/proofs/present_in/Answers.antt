@@ -1,5 +1,5 @@
 -- `edits_rows::present_in` meets its contract. The loop's invariant: a code of the row is marked, or it stands from place i on.
--- The measure is the number of moves left. Assumes nothing.
+-- Assumes nothing.
 use native.Mathlib.Omega.{arith}
 use Rattle.edits_rows.proofs.Marks.{marked-begin, marked_more, marked-ended}
 use Rattle.edits_rows.proofs.RowCodes.{codes-number, row-rises, row-among, row-code}

@@ -1,6 +1,5 @@
 -- `edits_rows::present_in` meets its contract. The loop's invariant: a code of the row is marked, or it stands from place i on.
--- The measure is the number of moves left. Assumes nothing.
-use Prim.Native.Nat.{◌-◌}
+-- Assumes nothing.
 use Rattle.model.specs.Plan.{read_moves}
 use Rattle.edits.specs.Places.{codes_in}
 use Rattle.edits_rows.proofs.Marks.{Marked}
@@ -8,6 +7,3 @@ use Rattle.edits_rows.proofs.present_in.Given as goal
 
 abbrev pub invariant-loop-i : goal.invariant-loop-i
 invariant-loop-i l = Marked (codes_in (read_moves l.plan l.row.first l.row.size)) l.row.size l.present l.i
-
-abbrev pub decreases-loop-i : goal.decreases-loop-i
-decreases-loop-i l = l.row.size - l.i
