@@ -50,23 +50,23 @@ pub extern "C" fn adapter_connect_mode(
     ensures outcome { record { answer = answer_of result; plan = plan.new; work = work.new }
         ≡ connect_of blank (mode_numbered mode) k old.now new.now work.old plan.old }
 {
-    connect::connect_mode(moves::mode_of(mode), k, old, new, work, plan)
+    connect::connect_mode(moves::Mode::from(mode), k, old, new, work, plan)
 }
 
-// `plan::step`.
+// `plan::step`, told by numbers.
 #[unsafe(no_mangle)]
 pub extern "C" fn adapter_step(plan: &[u8], state: u16, code: u8) -> Stepped
     ensures { result ≡ stepped_of (step_of plan.now state code) }
 {
-    plan::step(plan, state, code)
+    Stepped::from(plan::step(plan, state, code))
 }
 
-// `comply::complies`.
+// `comply::complies`, told by numbers.
 #[unsafe(no_mangle)]
 pub extern "C" fn adapter_complies(client: &[u8], service: &[u8]) -> Compliance
     ensures { result ≡ compliance_of (complies_of client.now service.now) }
 {
-    comply::complies(client, service)
+    Compliance::from(comply::complies(client, service))
 }
 
 // `check_plan::check_plan`, in the mode that a number names.
@@ -81,7 +81,7 @@ pub extern "C" fn adapter_check_plan(
     ensures outcome { record { answer = answer_of result; work = work.new }
         ≡ check_plan_of blank (mode_numbered mode) old.now new.now plan.now work.old }
 {
-    check_plan::check_plan(moves::mode_of(mode), old, new, plan, work)
+    check_plan::check_plan(moves::Mode::from(mode), old, new, plan, work)
 }
 
 // `check_plan::plan_fault`, in the same mode.
@@ -96,7 +96,7 @@ pub extern "C" fn adapter_plan_fault(
     ensures outcome { record { fault = fault_by result; work = work.new }
         ≡ plan_fault_of blank (mode_numbered mode) old.now new.now plan.now work.old }
 {
-    check_plan::plan_fault(moves::mode_of(mode), old, new, plan, work)
+    check_plan::plan_fault(moves::Mode::from(mode), old, new, plan, work)
 }
 
 // `convert::convert`.

@@ -5,7 +5,7 @@ use std::io::Print;
 // Prints the line of a case.
 pub fn answer_sheet(rt: &impl Print, case: &[u8]) -> io::Result<()> {
     match sheet::check_sheet(case) {
-        sheet::Finding::Whole => println!(rt; "0 0 0"),
-        sheet::Finding::Fault(number, state, offset) => println!(rt; "{number} {state} {offset}"),
+        Ok(()) => println!(rt; "0 0 0"),
+        Err(fault) => println!(rt; "{} {} {}", fault.number(), fault.state(), fault.offset()),
     }
 }

@@ -129,7 +129,7 @@ pub fn answer(rt: &impl Print, case: &[u8]) -> io::Result<()> {
         return Ok(());
     }
     let room = little_endian::word_at(case, 2) as usize;
-    let mode = moves::mode_of(case[4]);
+    let mode = moves::Mode::from(case[4]);
     let Some((old, new)) = framing::split_part(&case[6..]) else {
         return Ok(());
     };

@@ -86,7 +86,7 @@ pub fn answer(rt: &impl Print, case: &[u8]) -> io::Result<()> {
     if 5000 < count {
         return Ok(());
     }
-    let mode = moves::mode_of(case[2]);
+    let mode = moves::Mode::from(case[2]);
     let Some((old, rest)) = framing::split_part(&case[3..]) else {
         return Ok(());
     };

@@ -54,15 +54,7 @@ fn is_ready(b: &[u8], q: u8, mask: u16) -> bool
     requires { IsState b.now q }
     ensures { result ≡ listed (state (contract_in b.now) q).ready mask }
 {
-    let count = sheet::ready_count(b, q);
-    let mut i: u8 = 0;
-    while i < count {
-        if sheet::ready_set(b, q, i) == mask {
-            return true;
-        }
-        i += 1;
-    }
-    false
+    sheet::any_ready(b, q, |set| set == mask)
 }
 
 // The run after a move with a code, by which the plan goes to a state. A party that goes on offers the action.
@@ -172,8 +164,8 @@ fn follow_sheets(rt: &impl Print, parties: Parties, attempts: &[u8]) -> io::Resu
 // The same for any bytes; nothing is printed where they are no client sheet and service sheet.
 fn follow(rt: &impl Print, parties: Parties, attempts: &[u8]) -> io::Result<()> {
     match pair::check_pair(1, 0, parties.client, parties.service) {
-        pair::Pair::Refused(_, _, _, _) => Ok(()),
-        pair::Pair::Good => follow_sheets(rt, parties, attempts),
+        Err(_) => Ok(()),
+        Ok(()) => follow_sheets(rt, parties, attempts),
     }
 }
 

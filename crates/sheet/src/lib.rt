@@ -89,7 +89,7 @@ pub fn has_bit(mask: u16, j: u8) -> bool
     requires { j < 16 }
     ensures { result ≡ has mask j }
 {
-    (mask >> j) % 2 == 1
+    bits::has(mask, usize::from(j))
 }
 
 // An action's partner.

@@ -5,4 +5,4 @@ use Rattle.check_plan.proofs.Outcomes.{check-named}
 use Rattle.adapter.proofs.adapter_check_plan.Goals as goal
 
 pub returns : goal.returns
-returns c = record { outcome = check-named c.args.old.now c.args.new.now c.args.plan.now c.args.work.now c.mode_of.result c.mode_of.ensures c.check_plan.ensures.outcome }
+returns c = record { outcome = check-named c.args.old.now c.args.new.now c.args.plan.now c.args.work.now c.from.result c.from.ensures c.check_plan.ensures.outcome }

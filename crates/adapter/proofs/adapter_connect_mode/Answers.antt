@@ -5,4 +5,4 @@ use Rattle.connect.proofs.Outcomes.{connect-named}
 use Rattle.adapter.proofs.adapter_connect_mode.Goals as goal
 
 pub returns : goal.returns
-returns c = record { outcome = connect-named c.args.k c.args.old.now c.args.new.now c.args.work.now c.args.plan.now c.mode_of.result c.mode_of.ensures c.connect_mode.ensures.outcome }
+returns c = record { outcome = connect-named c.args.k c.args.old.now c.args.new.now c.args.work.now c.args.plan.now c.from.result c.from.ensures c.connect_mode.ensures.outcome }

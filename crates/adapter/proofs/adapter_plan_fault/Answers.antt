@@ -5,4 +5,4 @@ use Rattle.check_plan.proofs.Outcomes.{fault-named}
 use Rattle.adapter.proofs.adapter_plan_fault.Goals as goal
 
 pub returns : goal.returns
-returns c = record { outcome = fault-named c.args.old.now c.args.new.now c.args.plan.now c.args.work.now c.mode_of.result c.mode_of.ensures c.plan_fault.ensures.outcome }
+returns c = record { outcome = fault-named c.args.old.now c.args.new.now c.args.plan.now c.args.work.now c.from.result c.from.ensures c.plan_fault.ensures.outcome }

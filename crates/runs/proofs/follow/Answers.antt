@@ -4,4 +4,4 @@ use Rattle.runs.proofs.Start.{both-at-start}
 use Rattle.runs.proofs.follow.Goals as goal
 
 pub follow_sheets-requires : goal.follow_sheets-requires
-follow_sheets-requires g c = both-at-start _ _ _ c.check_pair.ensures c.in-Good.is
+follow_sheets-requires g c = both-at-start _ _ c.check_pair.ensures c.in-Ok.is
