@@ -17,7 +17,7 @@ ghost use Rattle.choosing_rows.specs.Holding.{AllRead, RowsRead};
 
 use little_endian::word_at;
 use sheet::ACTION_BITS;
-use sheet::parts::{Trailer, read_trailer, stray_bit};
+use sheet::parts::{Trailer, read_trailer, stray_bit, trailer_within};
 
 // "1 to 32 rows".
 const ROWS: usize = 32;
@@ -26,19 +26,7 @@ const ROWS: usize = 32;
 fn trailer_fits(t: Trailer) -> bool
     ensures { result ≡ choosing_trailer (trailer_of t) }
 {
-    if t.count < 1 {
-        return false;
-    }
-    if 32 < t.count {
-        return false;
-    }
-    if 7 < t.n {
-        return false;
-    }
-    if t.role != 0 {
-        return false;
-    }
-    t.closing == 0xC6
+    trailer_within(t, 32, 0, 0xC6)
 }
 
 // The bytes of a choosing sheet, with their trailer, which passed its tests and says how long they are.
@@ -205,8 +193,8 @@ impl Framed<'_> {
         }
     }
 
-    // All rows: each where the index says, directly behind the one before, the last up to the index. Gives the first at fault, if one is. A gap
-    // behind the last row counts for that row.
+    // All rows: each where the index says, directly behind the one before, the last up to the index. Gives the first at fault, if one is. A
+    // gap behind the last row counts for that row.
     fn read_all(&self, hidden: &mut [u32], masks: &mut [u16], targets: &mut [u32]) -> Option<u8>
         requires { NoRows hidden.old masks.old targets.old }
         ensures { AllRead self.now.bytes.now (trailer_of self.now.trailer) result
@@ -232,6 +220,7 @@ impl Framed<'_> {
 
 // The rows of a choosing sheet, put into tables with room for 32 and no target so far: whether the bytes are a choosing
 // sheet.
+// Slices of numbers side by side: docs/ARCHITECTURE.md names this function, and a narrower type asks more.
 pub fn read_rows(b: &[u8], hidden: &mut [u32], masks: &mut [u16], targets: &mut [u32]) -> bool
     requires { NoRows hidden.old masks.old targets.old }
     ensures { RowsRead b.now result hidden.new masks.new targets.new }

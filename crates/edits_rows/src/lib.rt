@@ -17,8 +17,9 @@ ghost use Rattle.edits.specs.Places.{codes_in};
 ghost use Rattle.edits.specs.Sound.{first_not, blamed, blame_of};
 ghost use Rattle.edits_rows.specs.Rows.{InRow, met_by, blame_from, blame_by, judged, found_of, Tells, WithCode, Judgeable};
 
-// Which condition a row breaks first, and by what: a move of the row that does not keep the buffer within its limits; one that the new state
-// can meet and the old one cannot; a ready set of the new state that is not answered; one that has not what the second part of the test asks.
+// Which condition a row breaks first, and by what: a move of the row that does not keep the buffer within its limits; one that the new
+// state can meet and the old one cannot; a ready set of the new state that is not answered; one that has not what the second part of the
+// test asks.
 #[derive(Clone, Copy, Debug, PartialEq, Eq)]
 pub enum Breach {
     Outside(u8),
@@ -27,8 +28,8 @@ pub enum Breach {
     Undelivered(u16),
 }
 
-// A breach for C: which condition fails, counted from 1, and 0 if none does; the code of the move that breaks one of the first two; the ready
-// set that breaks one of the others.
+// A breach for C: which condition fails, counted from 1, and 0 if none does; the code of the move that breaks one of the first two; the
+// ready set that breaks one of the others.
 #[repr(C)]
 #[derive(Clone, Copy)]
 pub struct Blame {

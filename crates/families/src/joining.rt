@@ -19,8 +19,8 @@ fn unions_first(word: u64, other: u64) -> u64
     if bits::has(other, 0) { word } else { 0 }
 }
 
-// All unions of a place in a number and one of the first 2 ^ (j + 1) places in another, by a function for half as many: a place in the upper
-// half has bit j, which the number gains before.
+// All unions of a place in a number and one of the first 2 ^ (j + 1) places in another, by a function for half as many: a place in the
+// upper half has bit j, which the number gains before.
 fn by_halves<F: Fn(u64, u64) -> u64>(word: u64, other: u64, j: u8, half: F) -> u64
     requires places { j < 6 }
     requires any { F.IsAlwaysCallable half }

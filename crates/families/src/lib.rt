@@ -12,7 +12,8 @@ mod joining;
 
 use joining::unions;
 
-// Numbers in a family.
+// The public functions take slices of so many numbers, and not a type of their own: docs/ARCHITECTURE.md names them, and a narrower type
+// asks more.
 const WORDS: usize = 256;
 
 // Masks written at most.
@@ -165,6 +166,7 @@ fn masks_in(word: u64, w: usize, out: &mut [u16], room: usize) -> usize
 }
 
 // The masks of a family, ascending, eight of them at most. Gives how many there are, 9 if more than eight.
+// A count, as it stands in a table until all states are found: 19 is told before 20.
 pub fn masks(family: &[u64], out: &mut [u16]) -> u8
     requires { (length family.now ≡ 256) × (8 ≤ length out.old) }
     ensures { (result ≡ min 9 (length (masks_of family.now)))

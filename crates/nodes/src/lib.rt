@@ -64,7 +64,8 @@ impl From<Refusal> for SheetAnswer {
     }
 }
 
-// The service's sheet of `count` states over n names, at the front of the lent output: how many bytes it has; 13 if there is no room for it.
+// The service's sheet of `count` states over n names, at the front of the lent output: how many bytes it has; 13 if there is no room for
+// it.
 pub fn write_sheet(
     sizes: &[u8],
     ready: &[u16],

@@ -134,6 +134,7 @@ impl Tables<'_> {
 }
 
 // The places that can be in a state, and what is kept of each.
+// Slices of numbers side by side: docs/ARCHITECTURE.md names this function, and a narrower type asks more.
 pub fn fill_places(
     cells: &[u32],
     bodies: &[u16],

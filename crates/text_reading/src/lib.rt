@@ -74,7 +74,7 @@ impl Scope {
         requires { (v < 3) × (at < 256) }
         ensures { fault_in result ≡ wrong_at (listed self.recs) (listed self.prefixed) at (variable v) }
     {
-        if (self.prefixed >> v) % 2 == 1 {
+        if bits::has(self.prefixed, v as usize) {
             None
         } else {
             Some(at as u8)

@@ -201,6 +201,7 @@ fn body_at(bodies: &[u16], place: u16) -> Option<usize>
 
 // The ready sets of a place, ascending, eight of them at most: those that are held if it is a body. Gives how many there are, 9 if more
 // than eight.
+// A count, as it stands in a table until all states are found: 19 is told before 20.
 pub fn put_ready(cells: &[u32], bodies: &[u16], held: &[u64], place: u16, out: &mut [u16]) -> u8
     requires { (length bodies.now ≤ 64) × (length cells.now ≤ 256) × (8 ≤ length out.old) × (place < 256)
         × Ends cells.now bodies.now (length bodies.now) place }

@@ -74,8 +74,8 @@ impl From<Refusal> for SheetAnswer {
 
 // ---- reading
 
-// A text that was read, with no variable at fault: the cells of its places, that of the end first, what leads to the bodies of its recs, and
-// its first place.
+// A text that was read, with no variable at fault: the cells of its places, that of the end first, what leads to the bodies of its recs,
+// and its first place.
 #[derive(Clone, Copy)]
 struct Term {
     cells: [u32; CELLS],
