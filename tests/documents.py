@@ -9,8 +9,8 @@ import sys
 from collections import Counter
 from pathlib import Path
 
-# docs/PORT.md lays what was before beside what is there
-PAGES = [path for path in sorted(Path('docs').glob('*.md')) if path.name != 'PORT.md']
+# docs/PORT.md and docs/DESIGN-PASS.md lay what was before beside what is there
+PAGES = [path for path in sorted(Path('docs').glob('*.md')) if path.name not in ('PORT.md', 'DESIGN-PASS.md')]
 DOCUMENTS = [Path('README.md'), *PAGES, Path('tests/README.md')]
 # the crates whose definitions and statements an auditor reads
 STATEMENTS = ('model', 'why', 'nodes', 'choosing', 'text', 'edits', 'named_row')
