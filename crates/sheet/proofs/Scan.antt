@@ -1,7 +1,7 @@
 -- Masks from place to place, as a loop over them sees it: the first that passes a test and the first out of order, with none left and with
 -- one mask passed. Each is one step of a definition. Assumes nothing.
 use mathlib.Core.Path.{◌≡◌, refl, sym, ap, ◌∙◌}
-use mathlib.Core.Bool.{Bool, true, false}
+use mathlib.Core.Bool.{Bool, true, false, ◌&&◌}
 use mathlib.Core.List.{List}
 use Prim.Native.Nat.{ℕ, ◌+◌, ◌<◌, ◌≤◌}
 use native.Mathlib.Omega.{arith}
@@ -9,10 +9,11 @@ use native.Mathlib.Numerals.{add-one}
 use Rattle.std.specs.Prelude.{Option, Some, None}
 use Rattle.std.specs.Bool.{then_some}
 use Rattle.std.specs.Option.{MatchOption, option_or}
-use lib.Dec.{ltb}
+use lib.Dec.{ltb, leb}
 use lib.ListN.{length, get_or, drop, drop_of_length-le}
 use lib.Seq.{drop-cons}
-use borrow.Author.Tests.{lt-ltb, le-ltb, ltb-true, ltb-false, lt-leb, le-leb}
+use borrow.Author.Tests.{lt-ltb, le-ltb, ltb-true, ltb-false, lt-leb, le-leb, leb-true, leb-false}
+use mir.Val.{bool_byte}
 use Rattle.model.specs.Lists.{place}
 use Rattle.model.specs.Sheet.{out_of_order}
 use Rattle.sheet.specs.Answers.{found}
@@ -64,6 +65,29 @@ found-none count i e = go (ltb i count) refl e
     go false h e = ltb-false i count h
 
 -- ---- the first mask out of order, as a loop has met it or not
+-- where it was met, if the masks do not rise any more
+abbrev pub met : Bool → ℕ → Option ℕ
+met true low = None
+met false low = Some low
+
+-- with one mask passed: one more rises if it is not below the least number above the one before
+pub met-on : (rising : Bool) (low i least mask more : ℕ) → (rising ≡ true → low ≡ i) → more ≡ bool_byte (rising && leb least mask)
+    → met (rising && leb least mask) (low + more) ≡ option_or (met rising low) (then_some (ltb mask least) i)
+met-on false low i least mask more all is = let none : more ≡ 0 = is in ap (λ (n : ℕ). Some n) (omega (arith, none))
+met-on true low i least mask more all is = go (leb least mask) refl is
+  where
+    go : (t : Bool) → leb least mask ≡ t → more ≡ bool_byte t → met t (low + more) ≡ then_some (ltb mask least) i
+    go true e is = rw (le-ltb mask least (leb-true least mask e)) refl
+    go false e is =
+        let none : more ≡ 0 = is in
+        rw (lt-ltb mask least (leb-false least mask e)) (ap (λ (n : ℕ). Some n) (omega (arith, none, all refl)))
+
+pub met-count : (rising t : Bool) (low i more : ℕ) → low ≤ i → (rising ≡ true → low ≡ i) → more ≡ bool_byte (rising && t)
+    → (low + more ≤ i + 1) × (rising && t ≡ true → low + more ≡ i + 1)
+met-count true true low i more few all is = let one : more ≡ 1 = is in (omega (arith, one, all refl), λ e. omega (arith, one, all refl))
+met-count true false low i more few all is = let none : more ≡ 0 = is in (omega (arith, none), λ e. cc)
+met-count false t low i more few all is = let none : more ≡ 0 = is in (omega (arith, none), λ e. cc)
+
 module _ (masks : List ℕ) where
   -- it was met, or it is as far on as `least`, the least number above the mask before, says
   abbrev pub LowAt : (i least : ℕ) → Option ℕ → Type 0

@@ -73,18 +73,21 @@ fn first_stray(b: &[u8], t: Trailer, count: usize, at: usize) -> Option<usize>
 }
 
 // The `count` masks of state q from an offset on: none with a stray bit, and then strictly ascending. Some mask has a stray
-// bit exactly if their union has one. What is handed on is the union.
+// bit exactly if their union has one. What is handed on is the union. A flag and a count, where an Option of the first place out of order
+// would be plainer: with it, reading a full sheet took a fifth to a half more time.
 pub fn check_masks(b: &[u8], t: Trailer, q: u8, count: usize, at: usize) -> Result<u16, Fault>
     requires { (t.n ≤ 7) × (t.role ≤ 1) × (at + 2 * count ≤ length b.now) × (length b.now ≤ 2118) }
     ensures { reading_of fault_of result ≡ on_result union_of (masks_from b.now (trailer_of t) q count 0 at) }
 {
     let mut union: u16 = 0;
-    let mut low = None;
+    let mut rising = true;
+    let mut low: usize = 0;
     let mut least: u32 = 0;
     for i in 0..count {
         let mask = word_at(b, at + 2 * i);
         union |= mask;
-        low = low.or((u32::from(mask) < least).then_some(i));
+        rising = rising & (least <= u32::from(mask));
+        low += usize::from(rising);
         least = u32::from(mask) + 1;
     }
     if stray_bit(t.n, t.role, union) {
@@ -94,13 +97,13 @@ pub fn check_masks(b: &[u8], t: Trailer, q: u8, count: usize, at: usize) -> Resu
             offset: (at + 2 * stray) as u16,
         });
     }
-    match low {
-        Some(i) => Err(Fault::Ready {
-            state: q,
-            offset: (at + 2 * i) as u16,
-        }),
-        None => Ok(union),
+    if rising {
+        return Ok(union);
     }
+    Err(Fault::Ready {
+        state: q,
+        offset: (at + 2 * low) as u16,
+    })
 }
 
 // The `count` successors of state q from an offset on: each a state of the sheet.
