@@ -63,12 +63,18 @@ fn unions_within(word: u64, other: u64, bits: u8) -> u64
 
 // ---- number by number
 
-// Whether some numbers of a family have no mask.
+// Whether some numbers of a family have no mask. Looked at from both ends on: families of few masks have them at either.
 fn no_mask(words: &[u64]) -> bool
     ensures { (T result → (i : ℕ) → i < length words.now → get_or words.now i 0 ≡ 0)
         × (((i : ℕ) → i < length words.now → get_or words.now i 0 ≡ 0) → T result) }
 {
-    words.iter().all(|word| *word == 0)
+    let end = words.len();
+    for i in 0..(end + 1) / 2 {
+        if words[i] != 0 || words[end - 1 - i] != 0 {
+            return false;
+        }
+    }
+    true
 }
 
 // The masks of the first h numbers and those of the h numbers behind them, together.
