@@ -13,16 +13,15 @@ use Rattle.nodes.specs.declared.SheetAnswer.{SheetAnswer}
 use Rattle.text.specs.Convert.{place_of_byte, text_into, text_fault_of}
 use Rattle.text_sheet.specs.declared.Refusal as code
 use Rattle.text_sheet.specs.declared.Refusal.TheVariants.{TooLong, NoText, AtFault, NoSheet}
-use Rattle.text_sheet.specs.declared.Term.{Term}
-use Rattle.text_sheet.specs.Refusals.{refusal_of, fault_of, Refuses, TermRead}
+use Rattle.text_sheet.specs.Refusals.{refusal_of, fault_of, Refuses}
 
 -- ---- handed on
 
 -- by the reader
-pub reading-refused : {s : List ℕ} {e : code.Refusal} (r : Result Term code.Refusal) → IsErrAnd r (λ x. x ≡ e) → Refuses s e
-    → MatchResult r (TermRead s) (Refuses s)
-reading-refused (Ok term) is refused = absurd is
-reading-refused {s} (Err x) is refused = subst⁻¹ (Refuses s) is refused
+pub reading-refused : {A : Type 0} (P : A → Type 0) {s : List ℕ} {e : code.Refusal} (r : Result A code.Refusal) → IsErrAnd r (λ x. x ≡ e)
+    → Refuses s e → MatchResult r P (Refuses s)
+reading-refused P (Ok term) is refused = absurd is
+reading-refused P {s = s} (Err x) is refused = subst⁻¹ (Refuses s) is refused
 
 -- by the converter
 pub text-refused : {s : List ℕ} {e : code.Refusal} (r : Result ℕ code.Refusal) → IsErrAnd r (λ x. x ≡ e) → Refuses s e → (out : List ℕ)

@@ -1,7 +1,7 @@
 // Contracts typed as text, converted into ordinary sheets: the entry points. Request 7/13, "Contracts typed as text".
 #![tactic(auto)]
 
-ghost use Rattle.std.specs.Prelude.{◌≡◌, List, ℕ, MatchResult};
+ghost use Rattle.std.specs.Prelude.{◌≡◌, List, ℕ, ◌≤◌, length, get_or, MatchResult};
 ghost use Rattle.nodes.specs.Answer.{written_by, written_as, refused_as};
 ghost use Rattle.nodes.specs.Answer.{refusal_of as states_refused};
 ghost use Rattle.text.specs.Convert.{text_into, text_fault_of};
@@ -85,31 +85,41 @@ struct Term {
     first: u8,
 }
 
-// A text read, blanks dropped, or refusal 1, 22 or 23.
-fn read_term(text: &[u8]) -> Result<Term, Refusal>
-    ensures { MatchResult result (TermRead text.now) (Refuses text.now) }
-{
-    if LONGEST < text.len() {
-        return Err(Refusal::TooLong);
+impl Term {
+    // No text yet.
+    fn none() -> Term
+        ensures { get_or result.cells 0 0 ≡ 0 }
+    {
+        Term {
+            cells: [0; CELLS],
+            bodies: [0; RECS],
+            places: 0,
+            recs: 0,
+            first: 0,
+        }
     }
+}
+
+// A text that is not too long read into a term, blanks dropped, or refusal 22 or 23. The term is lent, as it would be copied where it is
+// an answer.
+fn read_term(text: &[u8], term: &mut Term) -> Result<(), Refusal>
+    requires short { length text.now ≤ 256 }
+    requires none { get_or term.old.cells 0 0 ≡ 0 }
+    ensures { MatchResult result (λ _. TermRead text.now term.new) (Refuses text.now) }
+{
     let mut bytes = [0u8; LONGEST];
     let count = text_reading::strip(text, &mut bytes);
-    let mut cells = [0; CELLS];
-    let mut bodies = [0; RECS];
-    let read = text_reading::read_text(&bytes[..count], &mut cells, &mut bodies)?;
+    let read = text_reading::read_text(&bytes[..count], &mut term.cells, &mut term.bodies)?;
     if let Some(at) = read.wrong {
         return Err(Refusal::AtFault {
             at: usize::from(at),
         });
     }
-    let first = text_places::place_of(&bodies[..read.recs], read.link);
-    Ok(Term {
-        cells,
-        bodies,
-        places: read.places,
-        recs: read.recs,
-        first,
-    })
+    let first = text_places::place_of(&term.bodies[..read.recs], read.link);
+    term.places = read.places;
+    term.recs = read.recs;
+    term.first = first;
+    Ok(())
 }
 
 // ---- converting
@@ -142,7 +152,11 @@ fn write_states(term: &Term, sheet: &mut [u8]) -> Result<u16, nodes::Refusal>
 fn convert(text: &[u8], sheet: &mut [u8]) -> Result<u16, Refusal>
     ensures { written_as refusal_of result sheet.new ≡ text_into text.now sheet.old }
 {
-    let term = read_term(text)?;
+    if LONGEST < text.len() {
+        return Err(Refusal::TooLong);
+    }
+    let mut term = Term::none();
+    read_term(text, &mut term)?;
     Ok(write_states(&term, sheet)?)
 }
 
@@ -158,13 +172,17 @@ pub fn from_text(text: &[u8], sheet: &mut [u8]) -> SheetAnswer
 pub fn text_fault(text: &[u8]) -> u16
     ensures { result ≡ text_fault_of text.now }
 {
-    let Err(refusal) = read_term(text) else {
+    if LONGEST < text.len() {
         return 0;
-    };
-    match refusal {
-        Refusal::NoText { at } | Refusal::AtFault { at } => {
-            text_reading::place_of_byte(text, at) as u16
-        }
-        Refusal::TooLong | Refusal::NoSheet(_) => 0,
+    }
+    let mut term = Term::none();
+    match read_term(text, &mut term) {
+        Ok(()) => 0,
+        Err(refusal) => match refusal {
+            Refusal::NoText { at } | Refusal::AtFault { at } => {
+                text_reading::place_of_byte(text, at) as u16
+            }
+            Refusal::TooLong | Refusal::NoSheet(_) => 0,
+        },
     }
 }

@@ -3,40 +3,32 @@
 use mathlib.Core.Path.{refl, ap, sym, ◌∙◌}
 use mathlib.Core.Option.{some}
 use native.Mathlib.Omega.{arith}
-use lib.ListN.{length-take}
-use Rattle.nodes.proofs.Blank.{zeros-blank}
 use Rattle.text.specs.Grammar.{Tree}
 use Rattle.text_reading.specs.Reading.{fault_in, going}
 use Rattle.text_places.proofs.Wanting.{link-leads}
-use Rattle.text_sheet.proofs.Texts.{text-read-is, long-refused, read-stopped, read-wrong, RightCells, right-cells, term-read}
+use Rattle.text_sheet.proofs.Texts.{text-read-is, read-stopped, read-wrong, RightCells, right-cells, term-read}
 use Rattle.text_sheet.proofs.Refusing.{reading-refused}
 use Rattle.text_sheet.proofs.read_term.Goals as goal
 use Rattle.text_sheet.proofs.read_term.Goals.{In_default}
 
-pub returns-then-text-gt-LONGEST : goal.returns-then-text-gt-LONGEST
-returns-then-text-gt-LONGEST c = long-refused c.args.text.now c.if-text-gt-LONGEST.true
-
 pub returns-in_err-read : goal.returns-in_err-read
 returns-in_err-read c =
-    reading-refused _ c.from_residual.ensures.1
-    (read-stopped c.args.text.now c.if-text-gt-LONGEST.false (text-read-is c.strip-count.ensures.0 c.in_err-read.ensures) refl)
+    reading-refused _ _ c.from_residual.ensures.1
+    (read-stopped c.args.text.now c.requires.short (text-read-is c.strip-count.ensures.0 c.in_err-read.ensures) refl)
 
 pub returns-in-Some : goal.returns-in-Some
 returns-in-Some c =
-    read-wrong c.args.text.now c.if-text-gt-LONGEST.false (text-read-is c.strip-count.ensures.0 c.in_ok-read.ensures) refl
+    read-wrong c.args.text.now c.requires.short (text-read-is c.strip-count.ensures.0 c.in_ok-read.ensures) refl
     (ap fault_in c.in-Some.is ∙ ap some (sym c.from.ensures))
 
 -- with no variable at fault
 right : (c : In_default) → (t : Tree) × RightCells c.args.text.now (going c.in_ok-read.read) c.read_text.new.cells c.read_text.new.bodies t
 right c =
-    right-cells c.args.text.now c.if-text-gt-LONGEST.false (text-read-is c.strip-count.ensures.0 c.in_ok-read.ensures) refl
-    (ap fault_in c.in_default.is) (zeros-blank 257 0)
+    right-cells c.args.text.now c.requires.short (text-read-is c.strip-count.ensures.0 c.in_ok-read.ensures) refl
+    (ap fault_in c.in_default.is) c.requires.none
 
-pub slice_bounds-bodies-end : goal.slice_bounds-bodies-end
-slice_bounds-bodies-end c = omega (arith, (right c).1.fits.1)
-
-pub slice_bounds-place_of-end : goal.slice_bounds-place_of-end
-slice_bounds-place_of-end c = simp length-take (omega (arith, (right (goal.at.slice_bounds-place_of-end c).In_default).1.fits.1))
+pub shared_ref_as_front-place_of : goal.shared_ref_as_front-place_of
+shared_ref_as_front-place_of c = omega (arith, (right c).1.fits.1)
 
 pub place_of-first-requires : goal.place_of-first-requires
 place_of-first-requires c = link-leads _ _ (right (goal.at.place_of-first-requires c).In_default).1.first-ends-at
